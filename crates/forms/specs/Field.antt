@@ -1,0 +1,16 @@
+-- A text in a stored field: its octets up to the first zero, and zeros behind them ("Unused text octets are zero").
+use Prim.Native.Nat.{ℕ}
+use mathlib.Core.Bool.{Bool, _&&_}
+use mathlib.Core.List.{List}
+use lib.ListN.{take, drop}
+use Rattle.octets.specs.Stretch.{zeros}
+use Rattle.forms.specs.Class.{inClass, lead}
+use Rattle.forms.specs.Text.{formed}
+use Rattle.forms.specs.declared.class.Class.the-variants.{NotNul}
+use Rattle.forms.specs.declared.text.Form.{Form}
+
+unfoldable pub textOf : List ℕ → List ℕ
+textOf field = take (lead (inClass NotNul) field) field
+
+unfoldable pub isField : Form → List ℕ → Bool
+isField form field = formed form (textOf field) && zeros (drop (lead (inClass NotNul) field) field)

@@ -1,0 +1,4 @@
+pub mod Class
+pub mod Text
+pub mod Time
+pub mod Field

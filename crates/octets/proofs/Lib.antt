@@ -1,0 +1,4 @@
+pub mod StretchLaws
+pub mod PatchLaws
+pub mod NumberLaws
+pub mod RowsLaws

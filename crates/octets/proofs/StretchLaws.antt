@@ -1,0 +1,138 @@
+-- Laws of the tests on stretches and of `part`. Assumes nothing.
+use mathlib.Core.Path.{_≡_, refl, sym, ap, _∙_}
+use mathlib.Core.Bool.{Bool, true, false, _&&_, false≢true}
+use mathlib.Core.List.{List, [], _∷_}
+use Prim.Native.Nat.{ℕ, zero, suc, _+_, _-_, _≤_, _<_}
+use native.Mathlib.Omega.{arith}
+use native.Mathlib.Nat.{add-sub-cancel-left, sub-zero, zero-sub, suc-sub-suc}
+use native.Mathlib.Numerals.{add-one}
+use lib.ListN.{length, take, drop, getD, length-take, length-drop, drop-of-length-le}
+use lib.Seq.{drop-cons, take-nil, take-all, take-take, drop-drop, drop-length}
+use lib.Dec.{eqb}
+use borrow.Author.Tests.{eq-eqb, eqb-true}
+use Rattle.octets.specs.Choice.{if_then_else_}
+use Rattle.octets.specs.Stretch.{same, every, part}
+
+-- ---- tests that hold together
+
+pub and-left : (a b : Bool) → (a && b) ≡ true → a ≡ true
+and-left true b h = refl
+and-left false b h = h
+
+pub and-right : (a b : Bool) → (a && b) ≡ true → b ≡ true
+and-right true b h = h
+and-right false b h = absurd (false≢true h)
+
+pub and-both : (a b : Bool) → a ≡ true → b ≡ true → (a && b) ≡ true
+and-both a b p q = rw (p, q)
+
+pub and-assoc : (a b c : Bool) → ((a && b) && c) ≡ (a && (b && c))
+and-assoc true b c = refl
+and-assoc false b c = refl
+
+pub and-true : (a : Bool) → (a && true) ≡ a
+and-true true = refl
+and-true false = refl
+
+pub and-false : (a : Bool) → (a && false) ≡ false
+and-false true = refl
+and-false false = refl
+
+-- ---- a choice, by cases on its test
+
+pub if-cases : {A : Type 0} (P : A → Type 0) (t : Bool) (a b : A) → (t ≡ true → P a) → (t ≡ false → P b) → P (if t then a else b)
+unfolding if_then_else_
+if-cases P true a b p q = p refl
+if-cases P false a b p q = q refl
+
+pub if-true : {A : Type 0} (t : Bool) (a b : A) → t ≡ true → (if t then a else b) ≡ a
+unfolding if_then_else_
+if-true true a b h = refl
+if-true false a b h = absurd (false≢true h)
+
+pub if-false : {A : Type 0} (t : Bool) (a b : A) → t ≡ false → (if t then a else b) ≡ b
+unfolding if_then_else_
+if-false true a b h = absurd (false≢true (sym h))
+if-false false a b h = refl
+
+-- ---- every: a loop that goes up, with the tests so far in `so`
+
+pub every-turn : (p : ℕ → Bool) (so : Bool) (xs : List ℕ) (i : ℕ) → i < length xs
+    → (so && every p (drop i xs)) ≡ ((so && p (getD xs i 0)) && every p (drop (i + 1) xs))
+unfolding every
+every-turn p so xs i h =
+    rw (drop-cons xs i 0 h, add-one i) (sym (and-assoc so (p (getD xs i 0)) (every p (drop (suc i) xs))))
+
+pub every-end : (p : ℕ → Bool) (so : Bool) (xs : List ℕ) (i : ℕ) → length xs ≤ i → (so && every p (drop i xs)) ≡ so
+unfolding every
+every-end p so xs i h = rw (drop-of-length-le xs {i = i} h) (and-true so)
+
+-- what each element passes, the one at i does
+pub every-at : (p : ℕ → Bool) (xs : List ℕ) (i : ℕ) → every p xs ≡ true → i < length xs → p (getD xs i 0) ≡ true
+unfolding every
+every-at p [] i h k = absurd (omega arith)
+every-at p (x ∷ xs) zero h k = and-left (p x) (every p xs) h
+every-at p (x ∷ xs) (suc i) h k = every-at p xs i (and-right (p x) (every p xs) h) (omega arith)
+
+-- ---- same
+
+pub same-turn : (so : Bool) (a b : List ℕ) (i : ℕ) → i < length a → i < length b
+    → (so && same (drop i a) (drop i b)) ≡ ((so && eqb (getD a i 0) (getD b i 0)) && same (drop (i + 1) a) (drop (i + 1) b))
+unfolding same
+same-turn so a b i h k =
+    rw (drop-cons a i 0 h, drop-cons b i 0 k, add-one i)
+    (sym (and-assoc so (eqb (getD a i 0) (getD b i 0)) (same (drop (suc i) a) (drop (suc i) b))))
+
+pub same-end : (so : Bool) (a b : List ℕ) (i : ℕ) → length a ≤ i → length b ≤ i → (so && same (drop i a) (drop i b)) ≡ so
+unfolding same
+same-end so a b i h k = rw (drop-of-length-le a {i = i} h, drop-of-length-le b {i = i} k) (and-true so)
+
+pub same-lengths : (a b : List ℕ) → (length a ≡ length b → ⊥) → same a b ≡ false
+unfolding same
+same-lengths [] [] ne = absurd (ne refl)
+same-lengths [] (y ∷ ys) ne = refl
+same-lengths (x ∷ xs) [] ne = refl
+same-lengths (x ∷ xs) (y ∷ ys) ne = rw (same-lengths xs ys (λ e. ne (ap suc e))) (and-false (eqb x y))
+
+-- `same` is equality
+pub same-self : (a : List ℕ) → same a a ≡ true
+unfolding same
+same-self [] = refl
+same-self (x ∷ xs) = and-both (eqb x x) (same xs xs) (eq-eqb x x refl) (same-self xs)
+
+pub same-equal : (a b : List ℕ) → same a b ≡ true → a ≡ b
+unfolding same
+same-equal [] [] h = refl
+same-equal [] (y ∷ ys) h = absurd (false≢true h)
+same-equal (x ∷ xs) [] h = absurd (false≢true h)
+same-equal (x ∷ xs) (y ∷ ys) h =
+    let first = eqb-true x y (and-left (eqb x y) (same xs ys) h) in
+    let others = same-equal xs ys (and-right (eqb x y) (same xs ys) h) in
+    cc
+
+-- ---- part
+
+-- a part `&s[at..at + n]` as the borrow checker has it
+pub part-cut : (at n : ℕ) (xs : List ℕ) → take (at + n - at) (drop at xs) ≡ part at n xs
+part-cut at n xs = rw (add-sub-cancel-left at n)
+
+-- a part `&s[at..]` as the borrow checker has it, and the empty part at the end
+pub drop-cut : (at : ℕ) (xs : List ℕ) → take (length xs - at) (drop at xs) ≡ drop at xs
+drop-cut at xs = take-all (length xs - at) (drop at xs) (simp length-drop (omega arith))
+
+pub drop-past : (at : ℕ) (xs : List ℕ) → length xs ≤ at → take (length xs - length xs) (drop (length xs) xs) ≡ drop at xs
+drop-past at xs h = rw (drop-length xs, drop-of-length-le xs {i = at} h) (take-nil (length xs - length xs))
+
+pub part-length : (at n : ℕ) (xs : List ℕ) → at + n ≤ length xs → length (part at n xs) ≡ n
+part-length at n xs h = simp (length-take, length-drop) (omega arith)
+
+pub drop-take : (b m : ℕ) (l : List ℕ) → drop b (take m l) ≡ take (m - b) (drop b l)
+drop-take zero m l = rw (sub-zero m)
+drop-take (suc b) zero l = rw (zero-sub (suc b))
+drop-take (suc b) (suc m) [] = sym (take-nil (suc m - suc b))
+drop-take (suc b) (suc m) (x ∷ l) = rw (suc-sub-suc m b) (drop-take b m l)
+
+-- a part of a part
+pub part-part : (xs : List ℕ) (a m b n : ℕ) → b + n ≤ m → part b n (part a m xs) ≡ part (a + b) n xs
+part-part xs a m b n h =
+    ap (take n) (drop-take b m (drop a xs)) ∙ take-take n (m - b) (drop b (drop a xs)) (omega arith) ∙ ap (take n) (drop-drop b a xs)

@@ -1,0 +1,4 @@
+pub mod Choice
+pub mod Stretch
+pub mod Number
+pub mod Rows
