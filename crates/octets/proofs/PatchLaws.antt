@@ -1,14 +1,14 @@
 -- Laws of `patch`: its length, what stands where it was put, before it and behind it, patches one after the other, and a part lent and
 -- given back. Assumes nothing.
 use mathlib.Core.Path.{_≡_, refl, sym, ap, _∙_}
-use mathlib.Core.List.{List, [], _∷_, _++_, append-assoc}
+use mathlib.Core.List.{List, [], _∷_, _++_, append-assoc, append-nil}
 use Prim.Native.Nat.{ℕ, zero, suc, _+_, _-_, _≤_, _<_}
 use native.Mathlib.Omega.{arith}
-use native.Mathlib.Nat.{add-sub-cancel-left, zero-add, suc-add, add-assoc, add-zero}
+use native.Mathlib.Nat.{add-sub-cancel-left, zero-add, suc-add, sub-zero, zero-sub, suc-sub-suc}
 use native.Mathlib.Numerals.{add-one}
-use lib.ListN.{length, take, drop, getD, set, length-append}
-use lib.Seq.{take-length, paste, paste-zero, paste-suc, drop-drop}
-use Rattle.octets.specs.Stretch.{patch, part}
+use lib.ListN.{length, take, drop, getD, set, replicate, length-replicate}
+use lib.Seq.{take-length, paste, paste-zero, paste-suc, drop-drop, drop-length}
+use Rattle.octets.specs.Stretch.{patch, part, padded}
 
 pub patch-length : (xs : List ℕ) (at : ℕ) (ys : List ℕ) → length (patch xs at ys) ≡ length xs
 unfolding patch
@@ -51,6 +51,27 @@ patch-next (x ∷ xs) zero [] zs = rw (zero-add 0)
 patch-next (x ∷ xs) zero (y ∷ ys) zs =
     rw (zero-add (suc (length ys))) (ap (λ (l : List ℕ). y ∷ l) (rw (zero-add (length ys)) at (patch-next xs zero ys zs)))
 patch-next (x ∷ xs) (suc at) ys zs = rw (suc-add at (length ys)) (ap (λ (l : List ℕ). x ∷ l) (patch-next xs at ys zs))
+
+-- what stands behind may be put first
+pub patch-behind : (xs ys zs : List ℕ) → patch (patch xs (length ys) zs) 0 ys ≡ patch xs 0 (ys ++ zs)
+unfolding patch
+patch-behind [] ys zs = refl
+patch-behind (x ∷ xs) [] zs = patch-nothing (patch (x ∷ xs) 0 zs) 0
+patch-behind (x ∷ xs) (y ∷ ys) zs = ap (λ (l : List ℕ). y ∷ l) (patch-behind xs ys zs)
+
+-- a patch of everything
+pub patch-whole : (xs ys : List ℕ) → length ys ≡ length xs → patch xs 0 ys ≡ ys
+patch-whole xs ys e = patch-front xs ys (omega arith) ∙ rw (e, drop-length xs) (append-nil ys)
+
+pub drop-replicate : (n m a : ℕ) → drop n (replicate m a) ≡ replicate (m - n) a
+drop-replicate zero m a = rw (sub-zero m)
+drop-replicate (suc n) zero a = rw (zero-sub (suc n))
+drop-replicate (suc n) (suc m) a = rw (suc-sub-suc m n) (drop-replicate n m a)
+
+-- a text put into zeros
+pub patch-zeros : (n : ℕ) (text : List ℕ) → length text ≤ n → patch (replicate n 0) 0 text ≡ padded n text
+patch-zeros n text h =
+    patch-front (replicate n 0) text (rw (length-replicate {A = ℕ} n 0) h) ∙ ap (λ (l : List ℕ). text ++ l) (drop-replicate (length text) n 0)
 
 -- a store is a patch of one
 pub set-patch : (xs : List ℕ) (at v : ℕ) → set xs at v ≡ patch xs at (v ∷ [])

@@ -1,8 +1,8 @@
 -- Stretches of octets, as lists: a part, a list with a part replaced, and tests.
-use Prim.Native.Nat.{ℕ, zero, suc}
-use mathlib.Core.List.{List, [], _∷_}
+use Prim.Native.Nat.{ℕ, zero, suc, _-_}
+use mathlib.Core.List.{List, [], _∷_, _++_}
 use mathlib.Core.Bool.{Bool, true, false, _&&_}
-use lib.ListN.{take, drop}
+use lib.ListN.{length, take, drop, replicate}
 use lib.Dec.{eqb}
 
 -- the n octets from `at` on
@@ -15,6 +15,10 @@ patch [] at ys = []
 patch (x ∷ xs) zero [] = x ∷ xs
 patch (x ∷ xs) zero (y ∷ ys) = y ∷ patch xs zero ys
 patch (x ∷ xs) (suc at) ys = x ∷ patch xs at ys
+
+-- a text in a field of n octets, zeros behind it
+abbrev pub padded : ℕ → List ℕ → List ℕ
+padded n text = text ++ replicate (n - length text) 0
 
 -- the two are equal, octet for octet
 unfoldable pub same : List ℕ → List ℕ → Bool

@@ -1,0 +1,136 @@
+-- `wire::fields::read_text` meets its contract: the octets before the NUL lie in the window, and so in the body. Assumes nothing.
+use mathlib.Core.Path.{_≡_, sym, _∙_}
+use Prim.Native.Nat.{ℕ, _+_, _<_, _≤_}
+use native.Mathlib.Omega.{arith}
+use borrow.Author.Tests.{eq-eqb, ne-eqb, lt-ltb, le-ltb, not-true, not-false}
+use Rattle.octets.specs.Choice.{if_then_else_}
+use Rattle.wire.specs.Fields.{textAt}
+use Rattle.wire.proofs.FieldLaws.{inside}
+use borrow.Author.Needs.{needs}
+use Rattle.wire.proofs.fields.read_text.Statement.{statement}
+use Rattle.wire.proofs.fields.read_text.Tie as tie
+use Rattle.wire.proofs.fields.read_text.Reads as reads
+use Rattle.wire.proofs.fields.read_text.Lts as lts
+use Rattle.forms.proofs.class.lead_of.Reads as lead-of-reads
+use Rattle.forms.proofs.text.is_formed.Reads as is-formed-reads
+use Rattle.octets.proofs.stretch.first.Reads as first-reads
+use Rattle.octets.proofs.stretch.from.Reads as from-reads
+use Rattle.wire.proofs.cursor.Cursor.refuse.Reads as refuse-reads
+use Rattle.wire.proofs.fields.no_span.Reads as no-span-reads
+
+-- src/fields.rt:88:9
+no-span-requires : tie.Need-no-span-requires
+no-span-requires c κs = search needs
+
+-- src/fields.rt:88:9
+returns : tie.Need-returns
+unfolding textAt if_then_else_
+returns c = (rw (ne-eqb _ _ (c .before .if1 .taken)) (c .no-span .ensures .0), (omega arith, omega arith))
+
+-- src/fields.rt:90:41
+from-requires : tie.Need-from-requires
+from-requires c κs = search needs
+
+-- src/fields.rt:90:9
+first-requires : tie.Need-first-requires
+first-requires c κs = search needs
+
+-- src/fields.rt:91:9
+lead-of-requires : tie.Need-lead-of-requires
+lead-of-requires c κs = search needs
+
+-- src/fields.rt:94:28
+refuse-requires : tie.Need-refuse-requires
+refuse-requires c κs = search needs
+
+-- src/fields.rt:94:13
+no-span-requires-2 : tie.Need-no-span-requires-2
+no-span-requires-2 c κs = search needs
+
+-- src/fields.rt:94:13
+returns-2 : tie.Need-returns-2
+unfolding textAt if_then_else_
+returns-2 c = (
+  rw (eq-eqb _ _ (c .before .before .before .before .before .before .before .if1 .left), ← (c .before .before .before .before .before .before .from .ensures), ← (c .before .before .before .before .before .first .ensures), ← (c .before .before .before .before .lead-of .ensures .0), eq-eqb _ _ (c .before .before .before .if2 .taken), lt-ltb _ _ (c .before .before .if3 .taken), ← (c .before .refuse .ensures)) (c .no-span2 .ensures .0),
+  (omega arith, omega arith),
+)
+
+-- src/fields.rt:96:24
+refuse-requires-2 : tie.Need-refuse-requires-2
+refuse-requires-2 c κs = search needs
+
+-- src/fields.rt:96:9
+no-span-requires-3 : tie.Need-no-span-requires-3
+no-span-requires-3 c κs = search needs
+
+-- src/fields.rt:96:9
+returns-3 : tie.Need-returns-3
+unfolding textAt if_then_else_
+returns-3 c = (
+  rw (eq-eqb _ _ (c .before .before .before .before .before .before .before .if1 .left), ← (c .before .before .before .before .before .before .from .ensures), ← (c .before .before .before .before .before .first .ensures), ← (c .before .before .before .before .lead-of .ensures .0), eq-eqb _ _ (c .before .before .before .if2 .taken), le-ltb _ _ (c .before .before .if3 .left), ← (c .before .refuse2 .ensures)) (c .no-span3 .ensures .0),
+  (omega arith, omega arith),
+)
+
+-- src/fields.rt:98:32
+first-requires-2 : tie.Need-first-requires-2
+first-requires-2 c κs = search needs
+
+-- src/fields.rt:98:9
+is-formed-requires : tie.Need-is-formed-requires
+is-formed-requires c κs = search needs
+
+-- src/fields.rt:99:24
+refuse-requires-3 : tie.Need-refuse-requires-3
+refuse-requires-3 c κs = search needs
+
+-- src/fields.rt:99:9
+no-span-requires-4 : tie.Need-no-span-requires-4
+no-span-requires-4 c κs = search needs
+
+-- src/fields.rt:99:9
+returns-4 : tie.Need-returns-4
+unfolding textAt if_then_else_
+returns-4 c = (
+  rw (eq-eqb _ _ (c .before .before .before .before .before .before .before .before .before .if1 .left), ← (c .before .before .before .before .before .before .before .before .from .ensures), ← (c .before .before .before .before .before .before .before .first .ensures), ← (c .before .before .before .before .before .before .lead-of .ensures .0), ne-eqb _ _ (c .before .before .before .before .before .if2 .left), ← (c .before .before .before .before .first2 .ensures), sym (c .before .before .before .is-formed .ensures) ∙ not-true _ (c .before .before .if4 .taken), ← (c .before .refuse3 .ensures)) (c .no-span4 .ensures .0),
+  (omega arith, omega arith),
+)
+
+-- src/fields.rt:104:23
+add-t13 : tie.Need-add-t13
+add-t13 c = let i = inside (c .before .before .before .before .before .before .before .before .before .args .c .at) (c .before .before .before .before .before .before .before .before .before .args .most) (c .before .before .before .before .lead-of .result) _ _ _ (c .before .before .before .before .before .before .from .ensures) (c .before .before .before .before .before .first .ensures) (omega (arith, c .before .before .before .before .lead-of .ensures .1)) in omega arith
+
+-- src/fields.rt:104:17
+add-t22 : tie.Need-add-t22
+add-t22 c = let i = inside (c .before .before .before .before .before .before .before .before .before .args .c .at) (c .before .before .before .before .before .before .before .before .before .args .most) (c .before .before .before .before .lead-of .result) _ _ _ (c .before .before .before .before .before .before .from .ensures) (c .before .before .before .before .before .first .ensures) (omega (arith, c .before .before .before .before .lead-of .ensures .1)) in omega arith
+
+-- src/fields.rt:82:1
+returns-5 : tie.Need-returns-5
+unfolding textAt if_then_else_
+returns-5 c = let i = inside (c .before .before .before .before .before .before .before .before .before .args .c .at) (c .before .before .before .before .before .before .before .before .before .args .most) (c .before .before .before .before .lead-of .result) _ _ _ (c .before .before .before .before .before .before .from .ensures) (c .before .before .before .before .before .first .ensures) (omega (arith, c .before .before .before .before .lead-of .ensures .1)) in (
+  rw (eq-eqb _ _ (c .before .before .before .before .before .before .before .if1 .left), ← (c .before .before .before .before .before .before .from .ensures), ← (c .before .before .before .before .before .first .ensures), ← (c .before .before .before .before .lead-of .ensures .0), ne-eqb _ _ (c .before .before .before .if2 .left), ← (c .before .before .first2 .ensures), sym (c .before .is-formed .ensures) ∙ not-false _ (c .if4 .left)),
+  (omega arith, omega arith),
+)
+
+pub read-text-spec : {M : Type 1} → statement M
+read-text-spec =
+    tie.close
+    (tie.spec
+    no-span-requires
+    returns
+    from-requires
+    first-requires
+    lead-of-requires
+    refuse-requires
+    no-span-requires-2
+    returns-2
+    refuse-requires-2
+    no-span-requires-3
+    returns-3
+    first-requires-2
+    is-formed-requires
+    refuse-requires-3
+    no-span-requires-4
+    returns-4
+    add-t13
+    add-t22
+    returns-5)

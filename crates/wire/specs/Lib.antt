@@ -1,0 +1,5 @@
+pub mod Status
+pub mod Frame
+pub mod Cursor
+pub mod Fields
+pub mod Reply
