@@ -1,5 +1,5 @@
 -- The fields of a body and their status (document 01, "Fields and their status"), each read at a cursor.
-use Prim.Native.Nat.{ℕ, _+_}
+use Prim.Native.Nat.{ℕ, _+_, _≤_}
 use mathlib.Core.Bool.{Bool, _&&_}
 use mathlib.Core.List.{List, _∷_}
 use lib.ListN.{length, getD, take, drop, replicate}
@@ -56,7 +56,10 @@ textAt form most bad body c =
     else if formed form (take n w) then record { value = record { from = c .at; len = n }; next = beyond c (n + 1) }
     else noSpan (refuse c bad)
 
--- the octets of the body that a span names
+-- a span lies in the body; the octets that it names
+abbrev pub Inside : Span → List ℕ → Type 0
+Inside span body = span .from + span .len ≤ length body
+
 abbrev pub octetsOf : Span → List ℕ → List ℕ
 octetsOf span body = part (span .from) (span .len) body
 

@@ -8,7 +8,7 @@ ghost use mathlib.Core.Path.{_≡_};
 ghost use Prim.Native.Nat.{_+_, _-_, _≤_};
 ghost use lib.ListN.{length, take, drop};
 ghost use Rattle.octets.specs.Stretch.{part};
-ghost use Rattle.wire.specs.Fields.{noSpan, noTime, octetAt, textAt, addressAt, timeAt, idAt, spanAt, shortAt};
+ghost use Rattle.wire.specs.Fields.{Inside, noSpan, noTime, octetAt, textAt, addressAt, timeAt, idAt, spanAt, shortAt};
 
 pub const LONGEST_TEXT: u8 = 140;
 
@@ -61,7 +61,7 @@ pub struct SpanRead {
 
 // The octets of the body that a span names: that part of the body itself.
 pub fn octets_of(body: &[u8], span: Span) -> &[u8]
-    requires { ⌜ span .from + span .len ≤ length (now body) ⌝ }
+    requires { ⌜ Inside span (now body) ⌝ }
     ensures { λ r. ⌜ now r ≡ part (span .from) (span .len) (now (body .entry)) ⌝ }
 {
     let from = span.from;
@@ -80,7 +80,7 @@ fn no_span(next: Cursor) -> SpanRead
 
 // A text of at most `most` octets, its NUL among them.
 pub fn read_text(body: &[u8], c: Cursor, form: Form, most: usize, bad: u8) -> SpanRead
-    ensures { λ r. ⌜ (r ≡ textAt form most bad (now (body .entry)) c) × ((r .value .from + r .value .len ≤ length (now (body .entry))) × (r .value .len ≤ most - 1)) ⌝ }
+    ensures { λ r. ⌜ (r ≡ textAt form most bad (now (body .entry)) c) × (Inside (r .value) (now (body .entry)) × (r .value .len ≤ most - 1)) ⌝ }
 {
     let at = c.at;
     let status = c.status;
@@ -216,7 +216,7 @@ pub fn read_time(body: &[u8], c: Cursor) -> TimeRead
 
 // The next `len` octets, whatever they are.
 fn read_span(body: &[u8], c: Cursor, len: u8) -> SpanRead
-    ensures { λ r. ⌜ (r ≡ spanAt len (now (body .entry)) c) × (r .value .from + r .value .len ≤ length (now (body .entry))) ⌝ }
+    ensures { λ r. ⌜ (r ≡ spanAt len (now (body .entry)) c) × Inside (r .value) (now (body .entry)) ⌝ }
 {
     let at = c.at;
     let status = c.status;
@@ -242,7 +242,7 @@ fn read_span(body: &[u8], c: Cursor, len: u8) -> SpanRead
 
 // sm_length and the short message, which is not copied. A default message id beside it is refused.
 pub fn read_short(body: &[u8], c: Cursor, default: u8) -> SpanRead
-    ensures { λ r. ⌜ (r ≡ shortAt default (now (body .entry)) c) × (r .value .from + r .value .len ≤ length (now (body .entry))) ⌝ }
+    ensures { λ r. ⌜ (r ≡ shortAt default (now (body .entry)) c) × Inside (r .value) (now (body .entry)) ⌝ }
 {
     let size = read_octet(body, c, LONGEST_TEXT, status::INVALID_MESSAGE_LENGTH);
     let c1 = size.next;
