@@ -6,7 +6,7 @@ use Prim.Native.Nat.{ℕ, zero, suc, _+_, _-_, _≤_, _<_}
 use native.Mathlib.Omega.{arith}
 use native.Mathlib.Nat.{add-sub-cancel-left, zero-add, suc-add, sub-zero, zero-sub, suc-sub-suc}
 use native.Mathlib.Numerals.{add-one}
-use lib.ListN.{length, take, drop, getD, set, replicate, length-replicate}
+use lib.ListN.{length, take, drop, getD, set, replicate, length-append, length-replicate, replicate-append-replicate}
 use lib.Seq.{take-length, paste, paste-zero, paste-suc, drop-drop, drop-length}
 use Rattle.octets.specs.Stretch.{patch, part, padded}
 
@@ -73,6 +73,20 @@ pub patch-zeros : (n : ℕ) (text : List ℕ) → length text ≤ n → patch (r
 patch-zeros n text h =
     patch-front (replicate n 0) text (rw (length-replicate {A = ℕ} n 0) h) ∙ ap (λ (l : List ℕ). text ++ l) (drop-replicate (length text) n 0)
 
+-- one put behind another into zeros
+pub padded-put : (n at : ℕ) (a b : List ℕ) → length a ≡ at → at + length b ≤ n → patch (padded n a) at b ≡ padded n (a ++ b)
+padded-put n at a b e h =
+    let fits : length a ≤ n = omega arith in
+    let both : length (a ++ b) ≤ n = rw (length-append a b) (omega arith) in
+    rw (← e, ← (patch-zeros n a fits), ← (patch-zeros n (a ++ b) both)) (rw (zero-add (length a)) at (patch-next (replicate n 0) 0 a b))
+
+-- zeros put behind a text are there already
+pub padded-padded : (n m : ℕ) (a b : List ℕ) → length b ≤ m → length a + m ≤ n → padded n (a ++ padded m b) ≡ padded n (a ++ b)
+padded-padded n m a b h k =
+    let l : length (b ++ replicate (m - length b) 0) ≡ m = rw (length-append b (replicate (m - length b) 0), length-replicate {A = ℕ} (m - length b) 0) (omega arith) in
+    let e : (m - length b) + (n - (length a + m)) ≡ n - (length a + length b) = omega arith in
+    rw (length-append a (b ++ replicate (m - length b) 0), l, length-append a b, append-assoc a (b ++ replicate (m - length b) 0) (replicate (n - (length a + m)) 0), append-assoc b (replicate (m - length b) 0) (replicate (n - (length a + m)) 0), replicate-append-replicate {A = ℕ} (m - length b) (n - (length a + m)) 0, e, append-assoc a b (replicate (n - (length a + length b)) 0))
+
 -- a store is a patch of one
 pub set-patch : (xs : List ℕ) (at v : ℕ) → set xs at v ≡ patch xs at (v ∷ [])
 unfolding patch
@@ -113,6 +127,32 @@ drop-after (x ∷ xs) (suc at) ys (suc b) h = drop-after xs at ys b (omega arith
 
 pub part-after : (xs : List ℕ) (at : ℕ) (ys : List ℕ) (b n : ℕ) → at + length ys ≤ b → part b n (patch xs at ys) ≡ part b n xs
 part-after xs at ys b n h = ap (take n) (drop-after xs at ys b h)
+
+-- one octet before it, behind it, and inside it
+pub octet-before : (xs : List ℕ) (at : ℕ) (ys : List ℕ) (i : ℕ) → i < at → getD (patch xs at ys) i 0 ≡ getD xs i 0
+unfolding patch
+octet-before [] at ys i h = refl
+octet-before (x ∷ xs) zero ys i h = absurd (omega arith)
+octet-before (x ∷ xs) (suc at) ys zero h = refl
+octet-before (x ∷ xs) (suc at) ys (suc i) h = octet-before xs at ys i (omega arith)
+
+pub octet-after : (xs : List ℕ) (at : ℕ) (ys : List ℕ) (i : ℕ) → at + length ys ≤ i → getD (patch xs at ys) i 0 ≡ getD xs i 0
+unfolding patch
+octet-after [] at ys i h = refl
+octet-after (x ∷ xs) zero [] i h = refl
+octet-after (x ∷ xs) zero (y ∷ ys) zero h = absurd (omega arith)
+octet-after (x ∷ xs) zero (y ∷ ys) (suc i) h = octet-after xs zero ys i (omega arith)
+octet-after (x ∷ xs) (suc at) ys zero h = absurd (omega arith)
+octet-after (x ∷ xs) (suc at) ys (suc i) h = octet-after xs at ys i (omega arith)
+
+pub octet-inside : (xs : List ℕ) (at : ℕ) (ys : List ℕ) (i : ℕ) → i < length ys → at + i < length xs → getD (patch xs at ys) (at + i) 0 ≡ getD ys i 0
+unfolding patch
+octet-inside [] at ys i h k = absurd (omega arith)
+octet-inside (x ∷ xs) zero [] i h k = absurd (omega arith)
+octet-inside (x ∷ xs) zero (y ∷ ys) zero h k = refl
+octet-inside (x ∷ xs) zero (y ∷ ys) (suc i) h k =
+    rw (zero-add (suc i)) (rw (zero-add i) at (octet-inside xs zero ys i (omega arith) (omega arith)))
+octet-inside (x ∷ xs) (suc at) ys i h k = rw (suc-add at i) (octet-inside xs at ys i h (omega arith))
 
 -- from n on, a patch behind n is a patch of what lies there
 pub drop-patch : (xs : List ℕ) (n at : ℕ) (ys : List ℕ) → drop n (patch xs (n + at) ys) ≡ patch (drop n xs) at ys

@@ -7,17 +7,13 @@ use native.Mathlib.Nat.{zero-add, add-zero, mul-suc, mul-zero, sub-zero}
 use lib.ListN.{length, take, drop, getD, set, length-drop}
 use lib.Seq.{drop-drop, length-take-le}
 use Rattle.octets.specs.Stretch.{part, patch}
-use Rattle.octets.specs.Rows.{rows}
+use Rattle.octets.specs.Rows.{rows, rowsFrom}
 use Rattle.octets.proofs.PatchLaws.{part-patch, part-before, drop-after, drop-patch, patch-front}
 
 pub rows-length : (size count : ℕ) (xs : List ℕ) → length (rows size count xs) ≡ count
 unfolding rows
 rows-length size zero xs = refl
 rows-length size (suc count) xs = ap suc (rows-length size count (drop size xs))
-
--- the records from k on
-abbrev pub rowsFrom : ℕ → ℕ → ℕ → List ℕ → List (List ℕ)
-rowsFrom size count k xs = rows size (count - k) (drop (size * k) xs)
 
 pub rows-start : (size count : ℕ) (xs : List ℕ) → rowsFrom size count 0 xs ≡ rows size count xs
 rows-start size count xs = rw (sub-zero count, mul-zero size)

@@ -6,7 +6,7 @@ use Prim.Native.Nat.{ℕ, zero, suc, _+_, _-_, _≤_, _<_}
 use native.Mathlib.Omega.{arith}
 use native.Mathlib.Nat.{add-sub-cancel-left, sub-zero, zero-sub, suc-sub-suc}
 use native.Mathlib.Numerals.{add-one}
-use lib.ListN.{length, take, drop, getD, length-take, length-drop, drop-of-length-le}
+use lib.ListN.{length, take, drop, getD, set, length-take, length-drop, drop-of-length-le}
 use lib.Seq.{drop-cons, take-nil, take-all, take-take, drop-drop, drop-length}
 use lib.Dec.{eqb}
 use borrow.Author.Tests.{eq-eqb, eqb-true}
@@ -77,12 +77,19 @@ pub every-end : (p : ℕ → Bool) (so : Bool) (xs : List ℕ) (i : ℕ) → len
 unfolding every
 every-end p so xs i h = rw (drop-of-length-le xs {i = i} h) (and-true so)
 
--- what each element passes, the one at i does
-pub every-at : (p : ℕ → Bool) (xs : List ℕ) (i : ℕ) → every p xs ≡ true → i < length xs → p (getD xs i 0) ≡ true
+-- what each element passes, the one at i does, and what is put at i has to
+pub every-at : {A : Type 0} (p : A → Bool) (xs : List A) (i : ℕ) (d : A) → every p xs ≡ true → i < length xs → p (getD xs i d) ≡ true
 unfolding every
-every-at p [] i h k = absurd (omega arith)
-every-at p (x ∷ xs) zero h k = and-left (p x) (every p xs) h
-every-at p (x ∷ xs) (suc i) h k = every-at p xs i (and-right (p x) (every p xs) h) (omega arith)
+every-at p [] i d h k = absurd (omega arith)
+every-at p (x ∷ xs) zero d h k = and-left (p x) (every p xs) h
+every-at p (x ∷ xs) (suc i) d h k = every-at p xs i d (and-right (p x) (every p xs) h) (omega arith)
+
+pub every-set : {A : Type 0} (p : A → Bool) (xs : List A) (i : ℕ) (y : A) → every p xs ≡ true → p y ≡ true → every p (set xs i y) ≡ true
+unfolding every
+every-set p [] i y h g = refl
+every-set p (x ∷ xs) zero y h g = and-both (p y) (every p xs) g (and-right (p x) (every p xs) h)
+every-set p (x ∷ xs) (suc i) y h g =
+    and-both (p x) (every p (set xs i y)) (and-left (p x) (every p xs) h) (every-set p xs i y (and-right (p x) (every p xs) h) g)
 
 -- ---- same
 

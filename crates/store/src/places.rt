@@ -1,0 +1,54 @@
+// The sixteen places of an account's part.
+ghost use mathlib.Core.Path.{_≡_};
+ghost use Prim.Native.Nat.{_<_};
+ghost use lib.ListN.{length};
+ghost use Rattle.store.specs.Layout.{recordSize, places, partSize};
+ghost use Rattle.store.specs.Places.{recordAt, none, foundOf};
+
+pub const RECORD_SIZE: usize = 256;
+
+pub const PLACES: usize = 16;
+
+// A place, or absent.
+pub enum Found {
+    At(usize),
+    Nowhere,
+}
+
+// The best place of a search so far.
+pub struct Best {
+    pub found: bool,
+    pub rank: u64,
+    pub place: usize,
+}
+
+impl Best {
+    pub fn none() -> Best
+        ensures { λ r. ⌜ r ≡ none ⌝ }
+    {
+        Best {
+            found: false,
+            rank: 0,
+            place: 0,
+        }
+    }
+
+    pub fn found_at(self) -> Found
+        ensures { λ r. ⌜ r ≡ foundOf self ⌝ }
+    {
+        if self.found {
+            Found::At(self.place)
+        } else {
+            Found::Nowhere
+        }
+    }
+}
+
+// The record at place k, in the part itself.
+pub fn record_at(part: &[u8], k: usize) -> &[u8]
+    requires { ⌜ (length (now part) ≡ partSize) × (k < places) ⌝ }
+    ensures { λ r. ⌜ (now r ≡ recordAt k (now (part .entry))) × (length (now r) ≡ recordSize) ⌝ }
+{
+    let at = RECORD_SIZE * k;
+    &part[at..at + RECORD_SIZE]
+}

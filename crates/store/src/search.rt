@@ -1,0 +1,135 @@
+// The searches over the sixteen places. They compare in the part and copy no record out.
+use crate::book;
+use crate::places;
+use crate::places::Best;
+use crate::places::Found;
+ghost use mathlib.Core.Path.{_≡_};
+ghost use lib.ListN.{length};
+ghost use Rattle.store.specs.Layout.{recordSize, partSize};
+ghost use Rattle.store.specs.Places.{records, OnePlace, keep, lowest};
+ghost use Rattle.store.specs.Search.{turn, placeOf, pairPlace, emptyPlace, finishedPlace, newPlace, nextPlace, passes, rankOf};
+
+// What a record must be, to be looked at: of an id; waiting between two addresses; empty; finished; waiting.
+pub enum Search {
+    Id(u32),
+    Pair,
+    Empty,
+    Finished,
+    Ready,
+}
+
+fn is_pair(r: &[u8], source: &[u8], destination: &[u8]) -> bool
+    requires { ⌜ length (now r) ≡ recordSize ⌝ }
+    ensures { λ x. ⌜ x ≡ passes Search.Pair (now (source .entry)) (now (destination .entry)) (now (r .entry)) ⌝ }
+{
+    if r[0] == 1 {
+        book::is_same_address(&r[5..27], source) & book::is_same_address(&r[27..49], destination)
+    } else {
+        false
+    }
+}
+
+fn is_passing(r: &[u8], search: Search, source: &[u8], destination: &[u8]) -> bool
+    requires { ⌜ length (now r) ≡ recordSize ⌝ }
+    ensures { λ x. ⌜ x ≡ passes search (now (source .entry)) (now (destination .entry)) (now (r .entry)) ⌝ }
+{
+    let state = r[0];
+    match search {
+        Search::Id(id) => (state != 0) & (octets::number::number_at(r, 1) == id),
+        Search::Pair => is_pair(r, source, destination),
+        Search::Empty => state == 0,
+        Search::Finished => (2 <= state) & (state <= 5),
+        Search::Ready => state == 1,
+    }
+}
+
+fn turn_of(r: &[u8]) -> u64
+    requires { ⌜ length (now r) ≡ recordSize ⌝ }
+    ensures { λ x. ⌜ x ≡ turn (now (r .entry)) ⌝ }
+{
+    let id = octets::number::number_at(r, 1) as u64;
+    if r[56] == 1 { id } else { id + 4294967296 }
+}
+
+fn rank_of(r: &[u8], search: Search) -> u64
+    requires { ⌜ length (now r) ≡ recordSize ⌝ }
+    ensures { λ x. ⌜ x ≡ rankOf search (now (r .entry)) ⌝ }
+{
+    match search {
+        Search::Id(_) => octets::number::number_at(r, 1) as u64,
+        Search::Pair => octets::number::number_at(r, 1) as u64,
+        Search::Empty => 0,
+        Search::Finished => octets::number::number_at(r, 1) as u64,
+        Search::Ready => turn_of(r),
+    }
+}
+
+fn better(best: Best, k: usize, r: &[u8], search: Search, source: &[u8], destination: &[u8]) -> Best
+    requires { ⌜ length (now r) ≡ recordSize ⌝ }
+    ensures { λ x. ⌜ x ≡ keep (passes search (now (source .entry)) (now (destination .entry))) (rankOf search) best k (now (r .entry)) ⌝ }
+{
+    let rank = rank_of(r, search);
+    if is_passing(r, search, source, destination) & (!best.found | (rank < best.rank)) {
+        Best {
+            found: true,
+            rank,
+            place: k,
+        }
+    } else {
+        best
+    }
+}
+
+fn lowest_of(part: &[u8], search: Search, source: &[u8], destination: &[u8]) -> Found
+    requires { ⌜ length (now part) ≡ partSize ⌝ }
+    ensures { λ x. ⌜ (x ≡ lowest (passes search (now (source .entry)) (now (destination .entry))) (rankOf search) (records (now (part .entry)))) × OnePlace x ⌝ }
+{
+    let mut best = Best::none();
+    let mut k = 0;
+    while k < 16 {
+        best = better(
+            best,
+            k,
+            places::record_at(part, k),
+            search,
+            source,
+            destination,
+        );
+        k += 1;
+    }
+    best.found_at()
+}
+
+pub fn find_id(part: &[u8], id: u32) -> Found
+    requires { ⌜ length (now part) ≡ partSize ⌝ }
+    ensures { λ x. ⌜ (x ≡ placeOf id (now (part .entry))) × OnePlace x ⌝ }
+{
+    lowest_of(part, Search::Id(id), b"", b"")
+}
+
+pub fn find_pair(part: &[u8], source: &[u8], destination: &[u8]) -> Found
+    requires { ⌜ length (now part) ≡ partSize ⌝ }
+    ensures { λ x. ⌜ (x ≡ pairPlace (now (source .entry)) (now (destination .entry)) (now (part .entry))) × OnePlace x ⌝ }
+{
+    lowest_of(part, Search::Pair, source, destination)
+}
+
+// The place for a new record.
+pub fn find_new(part: &[u8]) -> Found
+    requires { ⌜ length (now part) ≡ partSize ⌝ }
+    ensures { λ x. ⌜ (x ≡ newPlace (now (part .entry))) × OnePlace x ⌝ }
+{
+    let empty = lowest_of(part, Search::Empty, b"", b"");
+    match empty {
+        Found::At(k) => Found::At(k),
+        Found::Nowhere => lowest_of(part, Search::Finished, b"", b""),
+    }
+}
+
+// The next message to send.
+pub fn find_next(part: &[u8]) -> Found
+    requires { ⌜ length (now part) ≡ partSize ⌝ }
+    ensures { λ x. ⌜ (x ≡ nextPlace (now (part .entry))) × OnePlace x ⌝ }
+{
+    lowest_of(part, Search::Ready, b"", b"")
+}
