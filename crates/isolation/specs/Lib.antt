@@ -1,0 +1,3 @@
+pub mod Platform
+pub mod History
+pub mod Isolation
