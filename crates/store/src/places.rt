@@ -2,7 +2,8 @@
 ghost use mathlib.Core.Path.{_≡_};
 ghost use Prim.Native.Nat.{_<_};
 ghost use lib.ListN.{length};
-ghost use Rattle.store.specs.Layout.{recordSize, places, partSize};
+ghost use Rattle.store.specs.Layout.{recordSize, places, partSize, idOf};
+ghost use Rattle.store.specs.Search.{waiting};
 ghost use Rattle.store.specs.Places.{recordAt, none, foundOf};
 
 pub const RECORD_SIZE: usize = 256;
@@ -51,4 +52,20 @@ pub fn record_at(part: &[u8], k: usize) -> &[u8]
 {
     let at = RECORD_SIZE * k;
     &part[at..at + RECORD_SIZE]
+}
+
+pub fn id_at(part: &[u8], k: usize) -> u32
+    requires { ⌜ (length (now part) ≡ partSize) × (k < places) ⌝ }
+    ensures { λ r. ⌜ r ≡ idOf (recordAt k (now (part .entry))) ⌝ }
+{
+    let r = record_at(part, k);
+    octets::number::number_at(r, 1)
+}
+
+pub fn is_waiting_at(part: &[u8], k: usize) -> bool
+    requires { ⌜ (length (now part) ≡ partSize) × (k < places) ⌝ }
+    ensures { λ r. ⌜ r ≡ waiting (recordAt k (now (part .entry))) ⌝ }
+{
+    let r = record_at(part, k);
+    r[0] == 1
 }

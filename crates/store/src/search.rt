@@ -4,10 +4,12 @@ use crate::places;
 use crate::places::Best;
 use crate::places::Found;
 ghost use mathlib.Core.Path.{_≡_};
+ghost use mathlib.Core.Bool.{_&&_};
+ghost use Prim.Native.Nat.{_<_};
 ghost use lib.ListN.{length};
-ghost use Rattle.store.specs.Layout.{recordSize, partSize};
-ghost use Rattle.store.specs.Places.{records, OnePlace, keep, lowest};
-ghost use Rattle.store.specs.Search.{turn, placeOf, pairPlace, emptyPlace, finishedPlace, newPlace, nextPlace, passes, rankOf};
+ghost use Rattle.store.specs.Layout.{recordSize, places, partSize};
+ghost use Rattle.store.specs.Places.{records, recordAt, OnePlace, keep, lowest};
+ghost use Rattle.store.specs.Search.{waiting, between, turn, placeOf, pairPlace, emptyPlace, finishedPlace, newPlace, nextPlace, passes, rankOf};
 
 // What a record must be, to be looked at: of an id; waiting between two addresses; empty; finished; waiting.
 pub enum Search {
@@ -27,6 +29,14 @@ fn is_pair(r: &[u8], source: &[u8], destination: &[u8]) -> bool
     } else {
         false
     }
+}
+
+// The same of the record at place k.
+pub fn is_pair_at(part: &[u8], k: usize, source: &[u8], destination: &[u8]) -> bool
+    requires { ⌜ (length (now part) ≡ partSize) × (k < places) ⌝ }
+    ensures { λ x. ⌜ x ≡ (waiting (recordAt k (now (part .entry))) && between (now (source .entry)) (now (destination .entry)) (recordAt k (now (part .entry)))) ⌝ }
+{
+    is_pair(places::record_at(part, k), source, destination)
 }
 
 fn is_passing(r: &[u8], search: Search, source: &[u8], destination: &[u8]) -> bool

@@ -1,0 +1,24 @@
+// An outcome, reported for a message.
+use store::places::Found;
+ghost use mathlib.Core.Path.{_≡_};
+ghost use lib.ListN.{length};
+ghost use Rattle.store.specs.Layout.{partSize};
+ghost use Rattle.account.specs.Cancel.{changed};
+ghost use Rattle.account.specs.Outcome.{reported};
+
+pub const NOT_WAITING: u8 = 10;
+
+pub fn report(part: &mut [u8], stamp: &[u8], id: u32, state: u8, error: u8) -> u8
+    requires { ⌜ (length (now part) ≡ partSize) × (length (now stamp) ≡ 16) ⌝ }
+    ensures { λ r. ⌜ changed r (now (part .exit)) ≡ reported (now (stamp .entry)) id state error (now (part .entry)) ⌝ }
+{
+    let found = store::search::find_id(&part[..], id);
+    let Found::At(k) = found else {
+        return NOT_WAITING;
+    };
+    if !store::places::is_waiting_at(&part[..], k) {
+        return NOT_WAITING;
+    }
+    store::change::finish(part, k, state, error, stamp);
+    0
+}
