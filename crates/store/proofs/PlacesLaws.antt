@@ -1,6 +1,6 @@
 -- Laws of the sixteen places: a loop over them, a place that is found, a record lent and given back. Assumes nothing.
 use mathlib.Core.Path.{_≡_, refl, sym, ap, _∙_}
-use mathlib.Core.Bool.{Bool, true, false, not, _&&_, _||_}
+use mathlib.Core.Bool.{Bool, true, false, not, _&&_, _||_, false≢true}
 use mathlib.Core.List.{List, [], _∷_, _++_}
 use Prim.Native.Nat.{ℕ, zero, suc, _+_, _-_, _*_, _≤_, _<_}
 use native.Mathlib.Omega.{arith}
@@ -14,7 +14,7 @@ use Rattle.octets.proofs.StretchLaws.{and-assoc, and-true, if-cases, part-lengt
 use Rattle.octets.proofs.RowsLaws.{rows-length, rows-more, rows-end}
 use Rattle.octets.proofs.PatchLaws.{part-back}
 use Rattle.store.specs.Layout.{recordSize, places, partSize, idOf}
-use Rattle.store.specs.Places.{records, recordAt, OnePlace, over, none, keep, foundOf, lowest, onPlace, onPlaces}
+use Rattle.store.specs.Places.{records, recordAt, Below, over, none, keep, foundOf, lowest, onPlace, onPlaces}
 use Rattle.store.specs.Search.{isEmpty}
 use Rattle.store.specs.Account.{otherId, apart}
 use Rattle.store.specs.declared.places.Found.{Found}
@@ -25,11 +25,17 @@ use Rattle.store.specs.declared.places.Best.{Best}
 abbrev pub from : ℕ → List ℕ → List (List ℕ)
 from k xs = rowsFrom recordSize places k xs
 
-module _ (k : ℕ) (xs : List ℕ) (h : k < places) where
-  pub over-more : {B : Type 0} (f : B → ℕ → List ℕ → B) (b b′ : B) → b′ ≡ f b k (recordAt k xs) → over f b k (from k xs) ≡ over f b′ (k + 1) (from (k + 1) xs)
-  unfolding over
-  over-more f b b′ e = rw (rows-more recordSize places k xs h, e)
+-- a fold over records of any size and number
+pub over-next : (size count k : ℕ) (xs : List ℕ) {B : Type 0} (f : B → ℕ → List ℕ → B) (b b′ : B) → k < count → b′ ≡ f b k (part (size * k) size xs)
+    → over f b k (rowsFrom size count k xs) ≡ over f b′ (k + 1) (rowsFrom size count (k + 1) xs)
+unfolding over
+over-next size count k xs f b b′ h e = rw (rows-more size count k xs h, e)
 
+pub over-last : (size count k : ℕ) (xs : List ℕ) {B : Type 0} (f : B → ℕ → List ℕ → B) (b : B) → count ≤ k → over f b k (rowsFrom size count k xs) ≡ b
+unfolding over
+over-last size count k xs f b h = rw (rows-end size count k xs h)
+
+module _ (k : ℕ) (xs : List ℕ) (h : k < places) where
   pub every-more : (p : List ℕ → Bool) (so : Bool) → (so && every p (from k xs)) ≡ ((so && p (recordAt k xs)) && every p (from (k + 1) xs))
   unfolding every
   every-more p so = rw (rows-more recordSize places k xs h) (sym (and-assoc so (p (recordAt k xs)) (every p (from (k + 1) xs))))
@@ -42,10 +48,6 @@ module _ (k : ℕ) (xs : List ℕ) (h : k < places) where
       (sym (and-assoc so (isEmpty (recordAt k xs) || every (otherId (idOf (recordAt k xs))) (from (k + 1) xs)) (apart (from (k + 1) xs))))
 
 module _ (k : ℕ) (xs : List ℕ) (h : places ≤ k) where
-  pub over-end : {B : Type 0} (f : B → ℕ → List ℕ → B) (b : B) → over f b k (from k xs) ≡ b
-  unfolding over
-  over-end f b = rw (rows-end recordSize places k xs h)
-
   pub every-done : (p : List ℕ → Bool) (so : Bool) → (so && every p (from k xs)) ≡ so
   unfolding every
   every-done p so = rw (rows-end recordSize places k xs h) (and-true so)
@@ -68,15 +70,15 @@ unfolding over
 over-within p rank n k b [] h w = w
 over-within p rank n k b (r ∷ rs) h w = over-within p rank n (k + 1) (keep p rank b k r) rs (omega arith) (keep-within p rank n k b r (omega arith) w)
 
-found-within : (b : Best) → Within places b → OnePlace (foundOf b)
+found-within : (n : ℕ) (b : Best) → Within n b → Below n (foundOf b)
 unfolding Within
-found-within b w = if-cases OnePlace (b .found) (At (b .place)) Nowhere (λ e. w e) (λ _. tt)
+found-within n b w = if-cases (Below n) (b .found) (At (b .place)) Nowhere (λ e. w e) (λ _. tt)
 
-pub lowest-one : (p : List ℕ → Bool) (rank : List ℕ → ℕ) (xs : List ℕ) → OnePlace (lowest p rank (records xs))
+pub lowest-below : (size count : ℕ) (p : List ℕ → Bool) (rank : List ℕ → ℕ) (xs : List ℕ) → Below count (lowest p rank (rows size count xs))
 unfolding lowest Within
-lowest-one p rank xs =
-    found-within (over (keep p rank) none 0 (records xs))
-    (over-within p rank places 0 none (records xs) (omega (arith, rows-length recordSize places xs)) (λ e. omega arith))
+lowest-below size count p rank xs =
+    found-within count (over (keep p rank) none 0 (rows size count xs))
+    (over-within p rank count 0 none (rows size count xs) (omega (arith, rows-length size count xs)) (λ e. absurd (false≢true e)))
 
 -- ---- a record lent as `&mut part[at..at + 256]` that has come back changed, as the borrow checker has the part then
 

@@ -1,5 +1,5 @@
 -- The account book's record of 64 octets (document 01, "The account book and the table").
-use Prim.Native.Nat.{ℕ, _-_}
+use Prim.Native.Nat.{ℕ, _-_, _*_}
 use mathlib.Core.Bool.{Bool, not, _&&_}
 use mathlib.Core.List.{List}
 use lib.ListN.{length, getD}
@@ -56,3 +56,10 @@ named system kind b = usedOk b && sameName (textOf (systemOf b)) system && sameN
 
 unfoldable pub passwordIs : List ℕ → List ℕ → Bool
 passwordIs password b = same (textOf (passwordOf b)) password
+
+-- the book has eight records; the lowest that a bind names
+abbrev pub bookRecord : ℕ → List ℕ → List ℕ
+bookRecord a book = part (bookRecordSize * a) bookRecordSize book
+
+abbrev pub bookSize : ℕ
+bookSize = 512

@@ -18,10 +18,13 @@ records xs = rows recordSize places xs
 abbrev pub recordAt : ℕ → List ℕ → List ℕ
 recordAt k xs = part (recordSize * k) recordSize xs
 
--- a place that is found is one of the sixteen
+-- a place that is found is one of the first n; one of the sixteen
+abbrev pub Below : ℕ → Found → Type 0
+Below n (At k) = k < n
+Below n Nowhere = Unit
+
 abbrev pub OnePlace : Found → Type 0
-OnePlace (At k) = k < places
-OnePlace Nowhere = Unit
+OnePlace found = Below places found
 
 -- all of them in order, with the place of each, the first being at k
 unfoldable pub over : {A B : Type 0} → (B → ℕ → A → B) → B → ℕ → List A → B

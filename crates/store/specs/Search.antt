@@ -6,7 +6,8 @@ use lib.Dec.{eqb}
 use Rattle.octets.specs.Choice.{if_then_else_}
 use Rattle.forms.specs.Class.{within}
 use Rattle.store.specs.Layout.{stateOf, idOf, sourceOf, destinationOf, priorityOf}
-use Rattle.store.specs.Book.{sameAddress}
+use Rattle.octets.specs.Rows.{rows}
+use Rattle.store.specs.Book.{bookRecordSize, sameAddress, named}
 use Rattle.store.specs.Places.{records, lowest}
 use Rattle.store.specs.declared.places.Found.{Found}
 use Rattle.store.specs.declared.places.Found.the-variants.{At, Nowhere}
@@ -62,6 +63,10 @@ newPlace xs = orElse (emptyPlace xs) (finishedPlace xs)
 -- the next to pick
 abbrev pub nextPlace : List ℕ → Found
 nextPlace xs = lowest waiting turn (records xs)
+
+-- the lowest used, well-formed book record with equal system_id and system_type
+abbrev pub namedPlace : List ℕ → List ℕ → List ℕ → Found
+namedPlace system kind book = lowest (named system kind) (λ r. 0) (rows bookRecordSize 8 book)
 
 -- ---- the same five, by the name of the search
 

@@ -2,9 +2,18 @@
 use forms::field;
 use forms::text::Form;
 ghost use mathlib.Core.Path.{_≡_};
-ghost use Prim.Native.Nat.{_≤_};
+ghost use Prim.Native.Nat.{_≤_, _<_};
 ghost use lib.ListN.{length};
-ghost use Rattle.store.specs.Book.{bookRecordSize, endedText, usedOk, sameName, sameAddress, named, passwordIs};
+ghost use Rattle.store.specs.Book.{bookRecordSize, bookRecord, bookSize, endedText, usedOk, sameName, sameAddress, named, passwordIs};
+
+// The record of account a, in the book itself.
+pub fn record_of(book: &[u8], a: usize) -> &[u8]
+    requires { ⌜ (length (now book) ≡ bookSize) × (a < 8) ⌝ }
+    ensures { λ r. ⌜ (now r ≡ bookRecord a (now (book .entry))) × (length (now r) ≡ bookRecordSize) ⌝ }
+{
+    let at = 64 * a;
+    &book[at..at + 64]
+}
 
 fn is_ended_text(f: &[u8], form: Form) -> bool
     requires { ⌜ 1 ≤ length (now f) ⌝ }

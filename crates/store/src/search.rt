@@ -8,8 +8,9 @@ ghost use mathlib.Core.Bool.{_&&_};
 ghost use Prim.Native.Nat.{_<_};
 ghost use lib.ListN.{length};
 ghost use Rattle.store.specs.Layout.{recordSize, places, partSize};
-ghost use Rattle.store.specs.Places.{records, recordAt, OnePlace, keep, lowest};
-ghost use Rattle.store.specs.Search.{waiting, between, turn, placeOf, pairPlace, emptyPlace, finishedPlace, newPlace, nextPlace, passes, rankOf};
+ghost use Rattle.store.specs.Places.{records, recordAt, Below, OnePlace, keep, lowest};
+ghost use Rattle.store.specs.Book.{bookRecordSize, bookSize, named};
+ghost use Rattle.store.specs.Search.{waiting, between, turn, placeOf, pairPlace, emptyPlace, finishedPlace, newPlace, nextPlace, namedPlace, passes, rankOf};
 
 // What a record must be, to be looked at: of an id; waiting between two addresses; empty; finished; waiting.
 pub enum Search {
@@ -142,4 +143,33 @@ pub fn find_next(part: &[u8]) -> Found
     ensures { λ x. ⌜ (x ≡ nextPlace (now (part .entry))) × OnePlace x ⌝ }
 {
     lowest_of(part, Search::Ready, b"", b"")
+}
+
+fn better_named(best: Best, a: usize, b: &[u8], system: &[u8], kind: &[u8]) -> Best
+    requires { ⌜ length (now b) ≡ bookRecordSize ⌝ }
+    ensures { λ x. ⌜ x ≡ keep (named (now (system .entry)) (now (kind .entry))) (λ r. 0) best a (now (b .entry)) ⌝ }
+{
+    if book::is_named(b, system, kind) & (!best.found | (0 < best.rank)) {
+        Best {
+            found: true,
+            rank: 0,
+            place: a,
+        }
+    } else {
+        best
+    }
+}
+
+// The account that a bind names.
+pub fn find_named(book: &[u8], system: &[u8], kind: &[u8]) -> Found
+    requires { ⌜ length (now book) ≡ bookSize ⌝ }
+    ensures { λ x. ⌜ (x ≡ namedPlace (now (system .entry)) (now (kind .entry)) (now (book .entry))) × Below 8 x ⌝ }
+{
+    let mut best = Best::none();
+    let mut a = 0;
+    while a < 8 {
+        best = better_named(best, a, book::record_of(book, a), system, kind);
+        a += 1;
+    }
+    best.found_at()
 }

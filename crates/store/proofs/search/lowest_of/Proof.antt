@@ -4,7 +4,7 @@ use Prim.Native.Nat.{_≤_, _-_}
 use native.Mathlib.Omega.{arith}
 use Rattle.store.specs.Places.{records, OnePlace, over, none, keep, foundOf, lowest}
 use Rattle.store.specs.Search.{passes, rankOf}
-use Rattle.store.proofs.PlacesLaws.{from, over-more, over-end, lowest-one}
+use Rattle.store.proofs.PlacesLaws.{from, over-next, over-last, lowest-below}
 use borrow.Author.Needs.{needs}
 use Rattle.store.proofs.search.lowest_of.Statement.{statement}
 use Rattle.store.proofs.search.lowest_of.Tie as tie
@@ -49,7 +49,7 @@ loop-less c = omega arith
 loop-again : tie.Need-loop-again Inv-loop μ-loop
 loop-again c = (
   omega arith,
-  c .before .before .before .loop .inv .1 ∙ over-more (c .before .before .before .loop .k) (c .before .before .before .before .before .before .before .before .args .part .now) (c .before .before .loop-test .taken) (keep (passes (c .before .before .before .before .before .before .before .before .args .search) (c .before .before .before .before .before .before .before .before .args .source .now) (c .before .before .before .before .before .before .before .before .args .destination .now)) (rankOf (c .before .before .before .before .before .before .before .before .args .search))) (c .before .before .before .loop .best) _ (rw (c .before .record-at .ensures .0) at (c .better .ensures)),
+  c .before .before .before .loop .inv .1 ∙ over-next 256 16 (c .before .before .before .loop .k) (c .before .before .before .before .before .before .before .before .args .part .now) (keep (passes (c .before .before .before .before .before .before .before .before .args .search) (c .before .before .before .before .before .before .before .before .args .source .now) (c .before .before .before .before .before .before .before .before .args .destination .now)) (rankOf (c .before .before .before .before .before .before .before .before .args .search))) (c .before .before .before .loop .best) _ (c .before .before .loop-test .taken) (rw (c .before .record-at .ensures .0) at (c .better .ensures)),
 )
 
 -- src/search.rt:97:5
@@ -60,8 +60,8 @@ found-at-requires c κs = search needs
 returns : tie.Need-returns Inv-loop μ-loop
 unfolding lowest
 returns c = let p = passes (c .before .before .before .before .before .before .before .args .search) (c .before .before .before .before .before .before .before .args .source .now) (c .before .before .before .before .before .before .before .args .destination .now) in
-    let e = c .found-at .ensures ∙ ap foundOf (sym (c .before .before .loop .inv .1 ∙ over-end (c .before .before .loop .k) (c .before .before .before .before .before .before .before .args .part .now) (c .before .loop-test .left) (keep p (rankOf (c .before .before .before .before .before .before .before .args .search))) (c .before .before .loop .best))) in
-    (e, subst OnePlace (sym e) (lowest-one p (rankOf (c .before .before .before .before .before .before .before .args .search)) (c .before .before .before .before .before .before .before .args .part .now)))
+    let e = c .found-at .ensures ∙ ap foundOf (sym (c .before .before .loop .inv .1 ∙ over-last 256 16 (c .before .before .loop .k) (c .before .before .before .before .before .before .before .args .part .now) (keep p (rankOf (c .before .before .before .before .before .before .before .args .search))) (c .before .before .loop .best) (c .before .loop-test .left))) in
+    (e, subst OnePlace (sym e) (lowest-below 256 16 p (rankOf (c .before .before .before .before .before .before .before .args .search)) (c .before .before .before .before .before .before .before .args .part .now)))
 
 pub lowest-of-spec : {M : Type 1} → statement M
 lowest-of-spec =
