@@ -1,0 +1,5 @@
+pub mod Sizes
+pub mod Views
+pub mod Frame
+pub mod Twin
+pub mod Theorem
