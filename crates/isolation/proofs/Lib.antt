@@ -3,3 +3,4 @@ pub mod Views
 pub mod Frame
 pub mod Twin
 pub mod Theorem
+pub mod Example
