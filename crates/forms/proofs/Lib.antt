@@ -1,3 +1,4 @@
 pub mod ClassLaws
 pub mod HexLaws
 pub mod TextLaws
+pub mod TimeLaws

@@ -1,0 +1,112 @@
+-- The centre, as a machine of the platform: its `step` is what every public operation is proved to follow.
+use Prim.Native.Nat.{ℕ, _≤_}
+use mathlib.Core.Path.{_≡_}
+use mathlib.Core.Bool.{Bool, not, _&&_, _||_}
+use mathlib.Core.List.{List, []}
+use lib.Dec.{ltb, eqb}
+use lib.ListN.{length}
+use Rattle.octets.specs.Choice.{if_then_else_}
+use Rattle.forms.specs.Time.{sentTime}
+use Rattle.wire.specs.Reply.{spaceNeeded}
+use Rattle.store.specs.Book.{bookSize, bookRecord}
+use Rattle.session.specs.declared.State.{State}
+use Rattle.session.specs.declared.Moved.{Moved}
+use Rattle.isolation.specs.Platform.{World, Step, Ran, Effect, Request, taken, reported, picked, Machine, tableSize}
+use Rattle.isolation.specs.Platform as P
+use Rattle.centre.specs.Answer.{Octets, Outcome, Answer, numbered, refusedOctets, refusedPick}
+use Rattle.centre.specs.Answer as A
+use Rattle.centre.specs.Open.{onOpen}
+use Rattle.centre.specs.Bound.{isTransmitter, onBound, onOutcome, onPick}
+use Rattle.centre.specs.declared.take.Taken.{Taken}
+
+-- 3: book not 512 octets or table not 32,768
+abbrev pub wrongSizes : ℕ → ℕ → Bool
+wrongSizes book table = not (eqb book bookSize) || not (eqb table tableSize)
+
+-- octets: 3, 4, 5, from the sizes of book, table and space, and the stamp
+unfoldable pub octetsEarly : ℕ → ℕ → List ℕ → ℕ → ℕ
+octetsEarly book table stamp space =
+    if wrongSizes book table then 3
+    else if ltb space spaceNeeded then 4
+    else if not (sentTime stamp) then 5
+    else 0
+
+abbrev pub earlyOctets : List ℕ → ℕ → Octets → ℕ
+earlyOctets book table x = octetsEarly (length book) table (x .stamp) (length (x .space))
+
+-- outcome: 3, 5
+unfoldable pub outcomeEarly : ℕ → ℕ → List ℕ → ℕ
+outcomeEarly book table stamp =
+    if wrongSizes book table then 3
+    else if not (sentTime stamp) then 5
+    else 0
+
+abbrev pub earlyOutcome : List ℕ → ℕ → Outcome → ℕ
+earlyOutcome book table x = outcomeEarly (length book) table (x .stamp)
+
+-- picking: 3
+unfoldable pub pickEarly : ℕ → ℕ → ℕ
+pickEarly book table = if wrongSizes book table then 3 else 0
+
+abbrev pub earlyPick : List ℕ → ℕ → ℕ
+earlyPick book table = pickEarly (length book) table
+
+-- account a sees its own book record
+unfoldable pub act : List ℕ → ℕ → Request Octets Outcome → List ℕ → ℕ → Effect Answer
+act book a (taken entry x) part last = onBound (isTransmitter entry) (bookRecord a book) x part last
+act book a (reported x) part last = onOutcome (bookRecord a book) x part last
+act book a picked part last = onPick (bookRecord a book) part last
+
+abbrev pub centre : Machine
+centre =
+    record {
+      Book = List ℕ;
+      T = Octets;
+      O = Outcome;
+      R = Answer;
+      numbered = numbered;
+      refusedOctets = refusedOctets;
+      refusedPick = refusedPick;
+      earlyOctets = earlyOctets;
+      earlyOutcome = earlyOutcome;
+      earlyPick = earlyPick;
+      front = onOpen;
+      act = act;
+    }
+
+abbrev pub step : List ℕ → World → Step Octets Outcome → Ran Answer
+step book w st = P.step centre book w st
+
+-- ---- what the code gives, as what a step gives
+
+abbrev pub world : State → List ℕ → World
+world state table = record { state = state; table = table }
+
+abbrev pub moves : Moved → List ℕ → Ran Answer
+moves r table = record { answer = numbered (r .number); world = world (r .state) table }
+
+abbrev pub takes : Taken → List ℕ → List ℕ → Ran Answer
+takes r table space =
+    record { answer = A.taken (r .number) (r .consumed) (r .written) space; world = world (r .state) table }
+
+abbrev pub reports : ℕ → State → List ℕ → Ran Answer
+reports number state table = record { answer = numbered number; world = world state table }
+
+-- the number and the record of a pick's answer
+abbrev pub pickedNumber : Answer → ℕ
+pickedNumber (A.numbered n) = n
+pickedNumber (A.taken n c w space) = n
+pickedNumber (A.picked n r) = n
+
+abbrev pub pickedRecord : Answer → List ℕ
+pickedRecord (A.numbered n) = []
+pickedRecord (A.taken n c w space) = []
+pickedRecord (A.picked n r) = r
+
+-- ---- what no early number tells of the arguments
+
+pub record Fit (book table : ℕ) (stamp : List ℕ) (space : ℕ) : Type 0 where
+  pub bookFits : book ≡ bookSize
+  pub tableFits : table ≡ tableSize
+  pub stampFits : length stamp ≡ 16
+  pub spaceFits : spaceNeeded ≤ space

@@ -1,0 +1,4 @@
+pub mod Answer
+pub mod Open
+pub mod Bound
+pub mod Centre

@@ -1,0 +1,5 @@
+// The message centre: framing, dispatch, the order of refusals, and the public operations.
+pub mod bound;
+pub mod number;
+pub mod open;
+pub mod take;

@@ -1,0 +1,167 @@
+// Taking octets on a session.
+use crate::bound;
+use crate::number;
+use crate::open;
+use session::Entry;
+use session::State;
+ghost use mathlib.Core.Path.{_≡_};
+ghost use Prim.Native.Nat.{ℕ, _<_, _≤_};
+ghost use mathlib.Core.List.{List};
+ghost use lib.ListN.{length};
+ghost use Rattle.wire.specs.Reply.{spaceNeeded};
+ghost use Rattle.store.specs.Book.{bookSize};
+ghost use Rattle.session.specs.State.{sessionCount};
+ghost use Rattle.session.specs.declared.Entry.the-variants.{Open};
+ghost use Rattle.isolation.specs.Platform.{tableSize, Step, octetsOf, octetsOn};
+ghost use Rattle.octets.specs.Choice.{if_then_else_};
+ghost use Rattle.centre.specs.Bound.{isTransmitter};
+ghost use Rattle.centre.specs.Centre.{octetsEarly, Fit, centre, step, world, takes};
+
+// A number, how many octets were consumed and written, and the state handed back.
+pub struct Taken {
+    pub number: u8,
+    pub consumed: usize,
+    pub written: usize,
+    pub state: State,
+}
+
+fn refuse(number: u8, state: State) -> Taken
+    ensures { λ r. ⌜ r ≡ record { number = number; consumed = 0; written = 0; state = state } ⌝ }
+{
+    Taken {
+        number,
+        consumed: 0,
+        written: 0,
+        state,
+    }
+}
+
+// What the sizes and the stamp give: 3, 4, 5, or 0.
+fn check(book: usize, table: usize, stamp: &[u8], space: usize) -> u8
+    ensures { λ r. ⌜ (r ≡ octetsEarly book table (now (stamp .entry)) space) × (r ≡ 0 → Fit book table (now (stamp .entry)) space) ⌝ }
+{
+    if (book != 512) | (table != 32768) {
+        return number::WRONG_SIZE;
+    }
+    if space < 44 {
+        return number::SPACE_TOO_SHORT;
+    }
+    if !forms::time::is_sent_time(stamp) {
+        return number::STAMP_ILL_FORMED;
+    }
+    number::DONE
+}
+
+fn take_open(book: &[u8], state: State, session: usize, octets: &[u8], space: &mut [u8]) -> Taken
+    requires { ⌜ (length (now book) ≡ bookSize) × ((session < sessionCount) × (spaceNeeded ≤ length (now space))) ⌝ }
+    ensures { λ r. ⌜ ((stamp table : List ℕ) → takes r table (now (space .exit)) ≡ octetsOn centre (now (book .entry)) (world state table) session (record { octets = now (octets .entry); stamp = stamp; space = now (space .entry) }) Open) ⌝ }
+{
+    let fronted = open::on_open(book, octets, space);
+    let entry = fronted.entry;
+    let next = state.bind(session, entry);
+    Taken {
+        number: fronted.number,
+        consumed: fronted.consumed,
+        written: fronted.written,
+        state: next,
+    }
+}
+
+fn left(entry: Entry, ends: bool) -> Entry
+    ensures { λ r. ⌜ r ≡ (if ends then Entry.Ended else entry) ⌝ }
+{
+    if ends { Entry::Ended } else { entry }
+}
+
+fn take_bound(
+    book: &[u8],
+    table: &mut [u8],
+    state: State,
+    session: usize,
+    entry: Entry,
+    transmitter: bool,
+    a: u8,
+    octets: &[u8],
+    stamp: &[u8],
+    space: &mut [u8],
+) -> Taken
+    requires { ⌜ ((length (now book) ≡ bookSize) × (length (now table) ≡ tableSize)) × ((session < sessionCount) × (isTransmitter entry ≡ transmitter)) ⌝ }
+    requires { ⌜ (length (now stamp) ≡ 16) × (spaceNeeded ≤ length (now space)) ⌝ }
+    ensures { λ r. ⌜ takes r (now (table .exit)) (now (space .exit)) ≡ octetsOf centre (now (book .entry)) (world state (now (table .entry))) session (record { octets = now (octets .entry); stamp = now (stamp .entry); space = now (space .entry) }) entry a ⌝ }
+{
+    if 8 <= a {
+        return refuse(number::ACCOUNT_ILL_FORMED, state);
+    }
+    let account = a as usize;
+    let record = store::book::record_of(book, account);
+    let last = state.last(account);
+    let at = 4096 * account;
+    let acted = bound::on_bound(
+        transmitter,
+        record,
+        octets,
+        stamp,
+        space,
+        &mut table[at..at + 4096],
+        last,
+    );
+    let kept = state.bind(session, left(entry, acted.ends));
+    let next = kept.issue(account, acted.last);
+    Taken {
+        number: acted.number,
+        consumed: acted.consumed,
+        written: acted.written,
+        state: next,
+    }
+}
+
+// Deals with at most one PDU. The first number that applies is given: 2, 3, 4, 5, 6, 9, then 1.
+pub fn take(
+    book: &[u8],
+    table: &mut [u8],
+    state: State,
+    session: usize,
+    octets: &[u8],
+    stamp: &[u8],
+    space: &mut [u8],
+) -> Taken
+    ensures { λ r. ⌜ takes r (now (table .exit)) (now (space .exit)) ≡ step (now (book .entry)) (world state (now (table .entry))) (Step.octets session (record { octets = now (octets .entry); stamp = now (stamp .entry); space = now (space .entry) })) ⌝ }
+{
+    if session::SESSIONS <= session {
+        return refuse(number::NO_SESSION, state);
+    }
+    let early = check(book.len(), table.len(), stamp, space.len());
+    if early != 0 {
+        return refuse(early, state);
+    }
+    let entry = state.entry(session);
+    match entry {
+        Entry::Closed => refuse(number::NOT_OPEN, state),
+        Entry::Open => take_open(book, state, session, octets, space),
+        Entry::Transmitter(a) => take_bound(
+            book,
+            table,
+            state,
+            session,
+            entry,
+            true,
+            a,
+            octets,
+            stamp,
+            space,
+        ),
+        Entry::Receiver(a) => take_bound(
+            book,
+            table,
+            state,
+            session,
+            entry,
+            false,
+            a,
+            octets,
+            stamp,
+            space,
+        ),
+        Entry::Ended => refuse(number::NOT_OPEN, state),
+    }
+}
