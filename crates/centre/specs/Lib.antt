@@ -2,3 +2,4 @@ pub mod Answer
 pub mod Open
 pub mod Bound
 pub mod Centre
+pub mod Pick

@@ -2,4 +2,5 @@
 pub mod bound;
 pub mod number;
 pub mod open;
+pub mod operations;
 pub mod take;

@@ -1,0 +1,44 @@
+use mathlib.Core.Path.{sym, _∙_}
+use native.Mathlib.Omega.{arith}
+use mathlib.Core.Bool.{not}
+use lib.Dec.{eqb}
+use borrow.Author.Tests.{eqb-true, not-true, not-false}
+use Rattle.octets.specs.Choice.{if_then_else_}
+use Rattle.octets.proofs.StretchLaws.{or-left, or-right}
+use Rattle.forms.proofs.TimeLaws.{sent-length}
+use Rattle.centre.specs.Centre.{outcomeEarly}
+use borrow.Author.Needs.{needs}
+use Rattle.centre.proofs.operations.check_outcome.Statement.{statement}
+use Rattle.centre.proofs.operations.check_outcome.Tie as tie
+use Rattle.centre.proofs.operations.check_outcome.Reads as reads
+use Rattle.centre.proofs.operations.check_outcome.Lts as lts
+use Rattle.forms.proofs.time.is_sent_time.Reads as is-sent-time-reads
+
+-- src/operations.rt:20:9
+returns : tie.Need-returns
+unfolding outcomeEarly if_then_else_
+returns c = (rw (c .if1 .taken), λ e. absurd (omega arith))
+
+-- src/operations.rt:22:9
+is-sent-time-requires : tie.Need-is-sent-time-requires
+is-sent-time-requires c κs = search needs
+
+-- src/operations.rt:23:9
+returns-2 : tie.Need-returns-2
+unfolding outcomeEarly if_then_else_
+returns-2 c = (rw (c .before .before .if1 .left, sym (c .before .is-sent-time .ensures) ∙ not-true _ (c .if2 .taken)), λ e. absurd (omega arith))
+
+-- src/operations.rt:16:1
+returns-3 : tie.Need-returns-3
+unfolding outcomeEarly if_then_else_
+returns-3 c = (
+  rw (c .before .before .if1 .left, sym (c .before .is-sent-time .ensures) ∙ not-false _ (c .if2 .left)),
+  λ e. record {
+    bookFits = eqb-true _ _ (not-false _ (or-left (not (eqb (c .before .before .before .before .args .book) 512)) (not (eqb (c .before .before .before .before .args .table) 32768)) (c .before .before .if1 .left)));
+    tableFits = eqb-true _ _ (not-false _ (or-right (not (eqb (c .before .before .before .before .args .book) 512)) (not (eqb (c .before .before .before .before .args .table) 32768)) (c .before .before .if1 .left)));
+    stampFits = sent-length _ (sym (c .before .is-sent-time .ensures) ∙ not-false _ (c .if2 .left));
+  },
+)
+
+pub check-outcome-spec : {M : Type 1} → statement M
+check-outcome-spec = tie.close (tie.spec returns is-sent-time-requires returns-2 returns-3)

@@ -1,0 +1,165 @@
+// Reporting an outcome and picking the next message to send.
+use crate::number;
+use session::State;
+use store::places::Found;
+ghost use mathlib.Core.Path.{_≡_};
+ghost use Prim.Native.Nat.{_<_, _≤_};
+ghost use lib.ListN.{length};
+ghost use Rattle.store.specs.Layout.{partSize};
+ghost use Rattle.store.specs.Book.{bookRecordSize};
+ghost use Rattle.isolation.specs.Platform.{Step};
+ghost use Rattle.centre.specs.Answer.{numbered};
+ghost use Rattle.centre.specs.Bound.{keeping, outcomeOk, onOutcome, onPick};
+ghost use Rattle.centre.specs.Centre.{outcomeEarly, pickEarly, step, world, reports, pickedNumber, pickedRecord};
+ghost use Rattle.centre.specs.Pick.{placed, PlacedInside, located, LocatedInside, Stamped, Sized};
+
+fn check_outcome(book: usize, table: usize, stamp: &[u8]) -> u8
+    ensures { λ r. ⌜ (r ≡ outcomeEarly book table (now (stamp .entry))) × (r ≡ 0 → Stamped book table (now (stamp .entry))) ⌝ }
+{
+    if (book != 512) | (table != 32768) {
+        return number::WRONG_SIZE;
+    }
+    if !forms::time::is_sent_time(stamp) {
+        return number::STAMP_ILL_FORMED;
+    }
+    number::DONE
+}
+
+fn is_outcome(state: u8) -> bool
+    ensures { λ r. ⌜ r ≡ outcomeOk state ⌝ }
+{
+    (state == 2) | (state == 3) | (state == 5)
+}
+
+fn on_outcome(
+    book: &[u8],
+    part: &mut [u8],
+    last: u32,
+    stamp: &[u8],
+    id: u32,
+    state: u8,
+    error: u8,
+) -> u8
+    requires { ⌜ (length (now book) ≡ bookRecordSize) × ((length (now part) ≡ partSize) × (length (now stamp) ≡ 16)) ⌝ }
+    ensures { λ r. ⌜ keeping (numbered r) (now (part .exit)) last ≡ onOutcome (now (book .entry)) (record { stamp = now (stamp .entry); id = id; state = state; error = error }) (now (part .entry)) last ⌝ }
+{
+    if !is_outcome(state) {
+        return number::NO_OUTCOME;
+    }
+    if !store::account::is_account_ok(book, last, &part[..]) {
+        return number::ACCOUNT_ILL_FORMED;
+    }
+    account::outcome::report(part, stamp, id, state, error)
+}
+
+// Stores state, error code and final date of a waiting message. The first number that applies is given: 3, 5, 7, 8, 9, 10.
+pub fn outcome(
+    book: &[u8],
+    table: &mut [u8],
+    state: State,
+    stamp: &[u8],
+    account: usize,
+    id: u32,
+    outcome: u8,
+    error: u8,
+) -> u8
+    ensures { λ r. ⌜ reports r state (now (table .exit)) ≡ step (now (book .entry)) (world state (now (table .entry))) (Step.outcome account (record { stamp = now (stamp .entry); id = id; state = outcome; error = error })) ⌝ }
+{
+    let early = check_outcome(book.len(), table.len(), stamp);
+    if early != 0 {
+        return early;
+    }
+    if 8 <= account {
+        return number::NO_ACCOUNT;
+    }
+    let record = store::book::record_of(book, account);
+    let last = state.last(account);
+    let at = 4096 * account;
+    on_outcome(
+        record,
+        &mut table[at..at + 4096],
+        last,
+        stamp,
+        id,
+        outcome,
+        error,
+    )
+}
+
+// The place that is picked, or the number why none is.
+pub enum Placed {
+    Refused(u8),
+    Place(usize),
+}
+
+fn on_pick(book: &[u8], part: &[u8], last: u32) -> Placed
+    requires { ⌜ (length (now book) ≡ bookRecordSize) × (length (now part) ≡ partSize) ⌝ }
+    ensures { λ r. ⌜ (keeping (placed r (now (part .entry))) (now (part .entry)) last ≡ onPick (now (book .entry)) (now (part .entry)) last) × PlacedInside r ⌝ }
+{
+    if !store::account::is_account_ok(book, last, part) {
+        return Placed::Refused(number::ACCOUNT_ILL_FORMED);
+    }
+    let found = store::search::find_next(part);
+    match found {
+        Found::At(k) => Placed::Place(k),
+        Found::Nowhere => Placed::Refused(number::NOTHING_WAITING),
+    }
+}
+
+// The octet of the table at which the picked record starts, or the number why none is.
+pub enum Located {
+    Refused(u8),
+    At(usize),
+}
+
+fn check_pick(book: usize, table: usize) -> u8
+    ensures { λ r. ⌜ (r ≡ pickEarly book table) × (r ≡ 0 → Sized book table) ⌝ }
+{
+    if (book != 512) | (table != 32768) {
+        number::WRONG_SIZE
+    } else {
+        number::DONE
+    }
+}
+
+fn locate(book: &[u8], table: &[u8], state: State, account: usize) -> Located
+    ensures { λ r. ⌜ (located r (now (table .entry)) ≡ step (now (book .entry)) (world state (now (table .entry))) (Step.picks account) .answer) × LocatedInside r (now (table .entry)) ⌝ }
+{
+    let early = check_pick(book.len(), table.len());
+    if early != 0 {
+        return Located::Refused(early);
+    }
+    if 8 <= account {
+        return Located::Refused(number::NO_ACCOUNT);
+    }
+    let record = store::book::record_of(book, account);
+    let last = state.last(account);
+    let at = 4096 * account;
+    let placed = on_pick(record, &table[at..at + 4096], last);
+    match placed {
+        Placed::Refused(n) => Located::Refused(n),
+        Placed::Place(k) => Located::At(at + 256 * k),
+    }
+}
+
+// Whether there is a message to send: 3, 7, 9, 11, or 0.
+pub fn pick_number(book: &[u8], table: &[u8], state: State, account: usize) -> u8
+    ensures { λ r. ⌜ r ≡ pickedNumber (step (now (book .entry)) (world state (now (table .entry))) (Step.picks account) .answer) ⌝ }
+{
+    let located = locate(book, table, state, account);
+    match located {
+        Located::Refused(n) => n,
+        Located::At(_) => number::DONE,
+    }
+}
+
+// The record itself, as part of the table, where the number is 0; else nothing.
+pub fn pick<'a>(book: &[u8], table: &'a [u8], state: State, account: usize) -> &'a [u8]
+    ensures { λ r. ⌜ now r ≡ pickedRecord (step (now (book .entry)) (world state (now (table .entry))) (Step.picks account) .answer) ⌝ }
+{
+    let located = locate(book, table, state, account);
+    match located {
+        Located::Refused(_) => &table[..0],
+        Located::At(at) => &table[at..at + 256],
+    }
+}
