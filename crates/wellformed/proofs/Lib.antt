@@ -1,3 +1,5 @@
 pub mod Cases
 pub mod Lengths
 pub mod Refused
+pub mod TextFields
+pub mod RulesHold

@@ -1,0 +1,57 @@
+-- Laws of texts in zero-padded fields. Assumes nothing.
+use mathlib.Core.Path.{_≡_, refl, sym, ap, _∙_}
+use mathlib.Core.Bool.{Bool, true, false, _&&_, false≢true}
+use mathlib.Core.List.{List, [], _∷_, _++_}
+use Prim.Native.Nat.{ℕ, zero, suc, _+_, _-_, _≤_}
+use native.Mathlib.Omega.{arith}
+use lib.ListN.{length, take, drop, replicate, length-append, length-replicate}
+use lib.Seq.{take-append-seam, drop-append-seam}
+use Rattle.octets.specs.Choice.{if_then_else_}
+use Rattle.octets.specs.Stretch.{every, isZero, zeros, padded}
+use Rattle.octets.proofs.StretchLaws.{and-left, and-right, and-both, if-cases, if-true, if-false}
+use Rattle.forms.specs.Class.{inClass, lead}
+use Rattle.forms.specs.Text.{formed}
+use Rattle.forms.specs.Field.{textOf, isField}
+use Rattle.forms.specs.declared.class.Class.the-variants.{NotNul}
+use Rattle.forms.specs.declared.text.Form.{Form}
+
+pub padded-length : (n : ℕ) (text : List ℕ) → length text ≤ n → length (padded n text) ≡ n
+padded-length n text h = rw (length-append text (replicate (n - length text) 0), length-replicate {A = ℕ} (n - length text) 0) (omega arith)
+
+pub every-replicate : (p : ℕ → Bool) (n a : ℕ) → p a ≡ true → every p (replicate n a) ≡ true
+unfolding every
+every-replicate p zero a h = refl
+every-replicate p (suc n) a h = and-both (p a) (every p (replicate n a)) h (every-replicate p n a h)
+
+-- the octets that a count passed are of the class
+pub every-lead : (p : ℕ → Bool) (xs : List ℕ) → every p (take (lead p xs) xs) ≡ true
+unfolding every lead
+every-lead p [] = refl
+every-lead p (x ∷ xs) =
+    if-cases (λ (n : ℕ). every p (take n (x ∷ xs)) ≡ true) (p x) (suc (lead p xs)) 0 (λ h. and-both (p x) _ h (every-lead p xs)) (λ _. refl)
+
+-- a count passes a list of the class, and goes no further than an octet that isn't
+pub lead-append : (p : ℕ → Bool) (xs ys : List ℕ) → lead p ys ≡ 0 → lead p (xs ++ ys) ≡ lead p xs
+unfolding lead if_then_else_
+lead-append p [] ys e = e
+lead-append p (x ∷ xs) ys e = ap (λ (n : ℕ). if p x then suc n else 0) (lead-append p xs ys e)
+
+pub lead-all : (p : ℕ → Bool) (xs : List ℕ) → every p xs ≡ true → lead p xs ≡ length xs
+unfolding every lead
+lead-all p [] h = refl
+lead-all p (x ∷ xs) h =
+    if-true (p x) (suc (lead p xs)) 0 (and-left (p x) (every p xs) h) ∙ ap suc (lead-all p xs (and-right (p x) (every p xs) h))
+
+lead-zeros : (n : ℕ) → lead (inClass NotNul) (replicate n 0) ≡ 0
+unfolding lead if_then_else_
+lead-zeros zero = refl
+lead-zeros (suc n) = refl
+
+-- a text without a NUL, zeros behind it, is a field with that text
+pub padded-field : (form : Form) (n : ℕ) (text : List ℕ) → every (inClass NotNul) text ≡ true → formed form text ≡ true → isField form (padded n text) ≡ true
+unfolding isField textOf
+padded-field form n text noNul h =
+    let m = n - length text in
+    let e : lead (inClass NotNul) (text ++ replicate m 0) ≡ length text =
+    lead-append (inClass NotNul) text (replicate m 0) (lead-zeros m) ∙ lead-all (inClass NotNul) text noNul in
+    rw (e, take-append-seam text (replicate m 0), drop-append-seam text (replicate m 0)) (and-both (formed form text) _ h (every-replicate isZero m 0 refl))
