@@ -3,3 +3,5 @@ pub mod Lengths
 pub mod Refused
 pub mod TextFields
 pub mod RulesHold
+pub mod GoodIs
+pub mod Changes

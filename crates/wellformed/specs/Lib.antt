@@ -1,2 +1,3 @@
 pub mod Effects
 pub mod Rules
+pub mod Good

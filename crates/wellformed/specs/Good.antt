@@ -1,0 +1,51 @@
+-- When a message record and an account are well formed (document 01, "The account book and the table"), a rule to a line.
+use Prim.Native.Nat.{ℕ, _≤_, _<_}
+use mathlib.Core.Path.{_≡_}
+use mathlib.Core.Bool.{true, false}
+use mathlib.Core.Logic.{_⊎_}
+use mathlib.Core.List.{List}
+use lib.ListN.{drop}
+use Rattle.octets.specs.Stretch.{zeros}
+use Rattle.forms.specs.Field.{isField}
+use Rattle.forms.specs.Time.{storedTime}
+use Rattle.forms.specs.declared.text.Form.the-variants.{Ascii}
+use Rattle.store.specs.Layout.{places, stateOf, idOf, sourceOf, destinationOf, serviceOf, priorityOf, scheduleOf, validityOf, registeredOf, defaultOf, lengthOf, textFieldOf, dateOf, errorOf, spareOf}
+use Rattle.store.specs.Record.{addressOk, timeOk, recordOk}
+use Rattle.store.specs.Places.{recordAt}
+use Rattle.store.specs.Search.{isEmpty}
+
+-- the state is 1 to 5, the final date is a time, present exactly when it is 2 to 5, and the error code is 0 in states 1 and 4
+pub record GoodEnd (r : List ℕ) : Type 0 where
+  pub stateLow : 1 ≤ stateOf r
+  pub stateHigh : stateOf r ≤ 5
+  pub noDate : stateOf r ≡ 1 → zeros (dateOf r) ≡ true
+  pub date : (stateOf r ≡ 1 → ⊥) → storedTime (dateOf r) ≡ true
+  pub error : (stateOf r ≡ 1) ⊎ (stateOf r ≡ 4) → errorOf r ≡ 0
+
+-- default id at most 100, length at most 140, not both given, unused text octets zero
+pub record GoodWords (r : List ℕ) : Type 0 where
+  pub default : defaultOf r ≤ 100
+  pub size : lengthOf r ≤ 140
+  pub notBoth : (lengthOf r ≡ 0) ⊎ (defaultOf r ≡ 0)
+  pub unused : zeros (drop (lengthOf r) (textFieldOf r)) ≡ true
+
+-- its id lies in 1..last, both addresses are given, every field passes the submission rules, and octets 250-255 are zero
+pub record Good (last : ℕ) (r : List ℕ) : Type 0 where
+  pub idLow : 1 ≤ idOf r
+  pub idHigh : idOf r ≤ last
+  pub source : addressOk (sourceOf r) ≡ true
+  pub destination : addressOk (destinationOf r) ≡ true
+  pub service : isField Ascii (serviceOf r) ≡ true
+  pub priority : priorityOf r ≤ 1
+  pub schedule : timeOk (scheduleOf r) ≡ true
+  pub validity : timeOk (validityOf r) ≡ true
+  pub registered : registeredOf r ≤ 1
+  pub words : GoodWords r
+  pub end : GoodEnd r
+  pub spare : zeros (spareOf r) ≡ true
+
+-- each of an account's records is well formed, and no two non-empty ones share an id
+pub record GoodPart (last : ℕ) (part : List ℕ) : Type 0 where
+  pub each : (k : ℕ) → k < places → recordOk last (recordAt k part) ≡ true
+  pub apart : (i j : ℕ) → i < places → j < places → (i ≡ j → ⊥)
+      → isEmpty (recordAt i part) ≡ false → isEmpty (recordAt j part) ≡ false → idOf (recordAt i part) ≡ idOf (recordAt j part) → ⊥
