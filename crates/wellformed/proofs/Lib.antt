@@ -5,3 +5,4 @@ pub mod TextFields
 pub mod RulesHold
 pub mod GoodIs
 pub mod Changes
+pub mod NewRecord

@@ -4,15 +4,17 @@ use mathlib.Core.Path.{_≡_}
 use mathlib.Core.Bool.{true, false}
 use mathlib.Core.Logic.{_⊎_}
 use mathlib.Core.List.{List}
-use lib.ListN.{drop}
-use Rattle.octets.specs.Stretch.{zeros}
+use lib.ListN.{length, drop}
+use Rattle.octets.specs.Stretch.{padded, zeros}
 use Rattle.forms.specs.Field.{isField}
 use Rattle.forms.specs.Time.{storedTime}
 use Rattle.forms.specs.declared.text.Form.the-variants.{Ascii}
 use Rattle.store.specs.Layout.{places, stateOf, idOf, sourceOf, destinationOf, serviceOf, priorityOf, scheduleOf, validityOf, registeredOf, defaultOf, lengthOf, textFieldOf, dateOf, errorOf, spareOf}
 use Rattle.store.specs.Record.{addressOk, timeOk, recordOk}
+use Rattle.store.specs.declared.change.Fields.{Fields}
 use Rattle.store.specs.Places.{recordAt}
 use Rattle.store.specs.Search.{isEmpty}
+use Rattle.wellformed.specs.Rules.{Timed}
 
 -- the state is 1 to 5, the final date is a time, present exactly when it is 2 to 5, and the error code is 0 in states 1 and 4
 pub record GoodEnd (r : List ℕ) : Type 0 where
@@ -49,3 +51,19 @@ pub record GoodPart (last : ℕ) (part : List ℕ) : Type 0 where
   pub each : (k : ℕ) → k < places → recordOk last (recordAt k part) ≡ true
   pub apart : (i j : ℕ) → i < places → j < places → (i ≡ j → ⊥)
       → isEmpty (recordAt i part) ≡ false → isEmpty (recordAt j part) ≡ false → idOf (recordAt i part) ≡ idOf (recordAt j part) → ⊥
+
+-- what a new record is made of passes the submission rules, both addresses given
+pub record GoodFields (f : Fields) (service text : List ℕ) : Type 0 where
+  pub sourceSize : length (f .source) ≡ 22
+  pub source : addressOk (f .source) ≡ true
+  pub destinationSize : length (f .destination) ≡ 22
+  pub destination : addressOk (f .destination) ≡ true
+  pub serviceSize : length service ≤ 5
+  pub serviceText : isField Ascii (padded 5 service) ≡ true
+  pub priority : f .priority ≤ 1
+  pub schedule : Timed (f .schedule)
+  pub validity : Timed (f .validity)
+  pub registered : f .registered ≤ 1
+  pub default : f .default ≤ 100
+  pub size : length text ≤ 140
+  pub notBoth : (length text ≡ 0) ⊎ (f .default ≡ 0)
