@@ -32,7 +32,7 @@ or-second false b e h = h
 pub within-both : (low high x : ℕ) → low ≤ x → x ≤ high → within low high x ≡ true
 within-both low high x h k = and-both (leb low x) (leb x high) (le-leb low x h) (le-leb x high k)
 
-both : (a b : Bool) → (a && b) ≡ true → (a ≡ true) × (b ≡ true)
+pub both : (a b : Bool) → (a && b) ≡ true → (a ≡ true) × (b ≡ true)
 both a b h = (and-left a b h, and-right a b h)
 
 eq-or : {s m n : ℕ} → (s ≡ m) ⊎ (s ≡ n) → (eqb s m || eqb s n) ≡ true

@@ -6,3 +6,6 @@ pub mod RulesHold
 pub mod GoodIs
 pub mod Changes
 pub mod NewRecord
+pub mod Sources
+pub mod Submission
+pub mod PlacesKept
