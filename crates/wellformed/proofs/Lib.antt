@@ -9,3 +9,5 @@ pub mod NewRecord
 pub mod Sources
 pub mod Submission
 pub mod PlacesKept
+pub mod Lowest
+pub mod GoodPartIs

@@ -46,11 +46,14 @@ pub record Good (last : ℕ) (r : List ℕ) : Type 0 where
   pub end : GoodEnd r
   pub spare : zeros (spareOf r) ≡ true
 
+-- two non-empty records that share an id
+abbrev pub Clash : List ℕ → List ℕ → Type 0
+Clash a b = (isEmpty a ≡ false) × (isEmpty b ≡ false) × (idOf a ≡ idOf b)
+
 -- each of an account's records is well formed, and no two non-empty ones share an id
 pub record GoodPart (last : ℕ) (part : List ℕ) : Type 0 where
   pub each : (k : ℕ) → k < places → recordOk last (recordAt k part) ≡ true
-  pub apart : (i j : ℕ) → i < places → j < places → (i ≡ j → ⊥)
-      → isEmpty (recordAt i part) ≡ false → isEmpty (recordAt j part) ≡ false → idOf (recordAt i part) ≡ idOf (recordAt j part) → ⊥
+  pub apart : (i j : ℕ) → i < j → j < places → Clash (recordAt i part) (recordAt j part) → ⊥
 
 -- what a new record is made of passes the submission rules, both addresses given
 pub record GoodFields (f : Fields) (service text : List ℕ) : Type 0 where

@@ -1,0 +1,53 @@
+-- A place that a search finds is one of the sixteen, and the record there passes the search's test. Assumes nothing.
+use mathlib.Core.Path.{_≡_, refl, sym, ap, subst, _∙_}
+use mathlib.Core.Bool.{Bool, true, false, not, _&&_, _||_, false≢true}
+use mathlib.Core.List.{List, [], _∷_}
+use Prim.Native.Nat.{ℕ, suc, _+_, _*_, _<_}
+use native.Mathlib.Nat.{zero-add, add-zero}
+use native.Mathlib.Omega.{arith}
+use lib.ListN.{length, getD}
+use lib.Dec.{ltb}
+use Rattle.octets.specs.Rows.{rows}
+use Rattle.octets.proofs.StretchLaws.{and-left, if-cases}
+use Rattle.octets.proofs.RowsLaws.{rows-length, rows-at}
+use Rattle.store.specs.Layout.{recordSize, places}
+use Rattle.store.specs.Places.{records, recordAt, OnePlace, over, none, keep, foundOf, lowest}
+use Rattle.store.specs.declared.places.Found.{Found}
+use Rattle.store.specs.declared.places.Found.the-variants.{At, Nowhere}
+use Rattle.store.specs.declared.places.Best.{Best}
+use Rattle.store.proofs.PlacesLaws.{lowest-below}
+
+module _ (passes : List ℕ → Bool) (rank : List ℕ → ℕ) where
+  -- the best so far passes, with `at i` the record at place i
+  Held : (ℕ → List ℕ) → Best → Type 0
+  Held at b = b .found ≡ true → passes (at (b .place)) ≡ true
+
+  over-held : (at : ℕ → List ℕ) (k : ℕ) (b : Best) (rs : List (List ℕ)) → ((i : ℕ) → i < length rs → getD rs i [] ≡ at (k + i)) → Held at b
+      → Held at (over (keep passes rank) b k rs)
+  unfolding over keep Held
+  over-held at k b [] e h = h
+  over-held at k b (r ∷ rs) e h =
+      over-held at (k + 1) (keep passes rank b k r) rs
+      (λ i below. e (suc i) (omega arith) ∙ ap at (omega arith))
+      (if-cases (Held at) _ _ _ (λ p _. ap passes (sym (e 0 (omega arith) ∙ ap at (add-zero k))) ∙ and-left _ _ p) (λ _. h))
+
+  module _ (part : List ℕ) (k : ℕ) (found : lowest passes rank (records part) ≡ At k) where
+    pub found-place : k < places
+    found-place = subst OnePlace found (lowest-below recordSize places passes rank part)
+
+    pub found-passes : passes (recordAt k part) ≡ true
+    unfolding lowest Held
+    found-passes =
+        if-cases (λ (x : Found). x ≡ At k → passes (recordAt k part) ≡ true) (best .found) (At (best .place)) Nowhere
+        (λ ok e. let same : best .place ≡ k = cc in ap (λ (i : ℕ). passes (recordAt i part)) (sym same) ∙ held ok)
+        (λ _ e. let z : _≡_ {A = ℕ} 0 1 = cc in absurd (omega arith))
+        found
+      where
+        best : Best
+        best = over (keep passes rank) none 0 (records part)
+
+        held : Held (λ i. recordAt i part) best
+        held =
+            over-held (λ i. recordAt i part) 0 none (records part)
+            (λ i h. rows-at recordSize places i part (omega (arith, rows-length recordSize places part)) ∙ ap (λ (j : ℕ). recordAt j part) (sym (zero-add i)))
+            (λ e. absurd (false≢true e))
