@@ -11,3 +11,4 @@ pub mod Submission
 pub mod PlacesKept
 pub mod Lowest
 pub mod GoodPartIs
+pub mod Parts
