@@ -12,3 +12,4 @@ pub mod PlacesKept
 pub mod Lowest
 pub mod GoodPartIs
 pub mod Parts
+pub mod Accounts
