@@ -137,7 +137,7 @@ module _ (book part : List ℕ) (last : ℕ) (whole : length part ≡ partSize) 
     cancelled-ok body =
         cancelled-cases stamp part (λ (r : Changed). Ok last (r .part)) (λ _ _. ok) book body
         (λ k e t. finished-ok 4 0 (omega arith) (omega arith) (λ _. refl) k (known-place _ part k e) (cancellable-waiting _ _ _ t))
-        (deleted-ok _ _)
+        (λ _. deleted-ok _ _)
 
   pub replaced-ok : (body : List ℕ) → accountOk book last (replaced book body part .part) ≡ true
   replaced-ok body =

@@ -55,19 +55,19 @@ module _ (book body part : List ℕ) (last : ℕ) (P : Submitted → Type 0) whe
 module _ (stamp part : List ℕ) (P : Changed → Type 0) (refuses : (status : ℕ) → (status ≡ 0 → ⊥) → P (changed status part)) where
   by-id : (id : MessageId) (source destination : List ℕ)
       → ((k : ℕ) → known id part ≡ At k → cancellable source destination (recordAt k part) ≡ true → P (deletedAt stamp part k))
-      → P (changed 0 (onPlaces (deletedIf source destination stamp) places 0 part))
+      → (id ≡ Empty → P (changed 0 (onPlaces (deletedIf source destination stamp) places 0 part)))
       → P (cancelledBy id source destination stamp part)
   unfolding cancelledOne cancelledAll known
   by-id Empty source destination one all =
       if-cases P _ _ _ (λ _. refuses 11 (omega arith)) λ _.
-      found-cases P (pairPlace source destination part) _ _ (λ _ _. all) λ _. refuses 17 (omega arith)
+      found-cases P (pairPlace source destination part) _ _ (λ _ _. all refl) λ _. refuses 17 (omega arith)
   by-id (Number id) source destination one all =
       found-cases P _ _ _ (λ k e. if-cases P _ _ _ (one k e) λ _. refuses 17 (omega arith)) λ _. refuses 12 (omega arith)
 
   pub cancelled-cases : (book body : List ℕ)
       → ((k : ℕ) → known (cancellation body .id) part ≡ At k → cancellable (canceller book body) (cancellation body .destination .octets) (recordAt k part) ≡ true
       → P (deletedAt stamp part k))
-      → P (deletedAll book stamp body part)
+      → (cancellation body .id ≡ Empty → P (deletedAll book stamp body part))
       → P (cancelled book stamp body part)
   unfolding cancelled
   cancelled-cases book body one all = read-cases P (cancelOf body .status) _ _ (refuses _) λ _. by-id _ _ _ one all

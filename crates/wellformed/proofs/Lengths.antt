@@ -32,7 +32,7 @@ module _ (part : List ℕ) where
   pub cancelled-length : (book stamp body : List ℕ) → length (cancelled book stamp body part .part) ≡ length part
   unfolding Keeps
   cancelled-length book stamp body =
-      cancelled-cases stamp part Keeps (λ _ _. refl) book body (λ _ _ _. patch-length part _ _) (onPlaces-length _ _ _ part)
+      cancelled-cases stamp part Keeps (λ _ _. refl) book body (λ _ _ _. patch-length part _ _) (λ _. onPlaces-length _ _ _ part)
 
   pub replaced-length : (book body : List ℕ) → length (replaced book body part .part) ≡ length part
   unfolding Keeps

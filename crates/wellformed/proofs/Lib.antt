@@ -13,3 +13,5 @@ pub mod Lowest
 pub mod GoodPartIs
 pub mod Parts
 pub mod Accounts
+pub mod Issued
+pub mod Elsewhere

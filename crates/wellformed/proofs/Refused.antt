@@ -21,7 +21,7 @@ module _ (part : List ℕ) where
   pub cancelled-refused : (book stamp body : List ℕ) → (cancelled book stamp body part .status ≡ 0 → ⊥) → cancelled book stamp body part .part ≡ part
   unfolding Same
   cancelled-refused book stamp body =
-      cancelled-cases stamp part Same (λ _ _ _. refl) book body (λ _ _ _ ne. absurd (ne refl)) (λ ne. absurd (ne refl))
+      cancelled-cases stamp part Same (λ _ _ _. refl) book body (λ _ _ _ ne. absurd (ne refl)) (λ _ ne. absurd (ne refl))
 
   pub replaced-refused : (book body : List ℕ) → (replaced book body part .status ≡ 0 → ⊥) → replaced book body part .part ≡ part
   unfolding Same
