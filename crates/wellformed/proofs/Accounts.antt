@@ -1,8 +1,8 @@
 -- Each effect leaves a well-formed account well formed, with the last id that it gives back. A query changes nothing: it gives back neither a part
 -- nor a last id. Assumes nothing.
-use mathlib.Core.Path.{_≡_, refl, sym, ap, subst, _∙_}
-use mathlib.Core.Bool.{Bool, true, false, _&&_, _||_}
-use mathlib.Core.Logic.{_⊎_, inl, inr, ⊎-map}
+use mathlib.Core.Path.{_≡_, refl, subst, _∙_}
+use mathlib.Core.Bool.{Bool, true, _&&_, _||_}
+use mathlib.Core.Logic.{⊎-map}
 use mathlib.Core.List.{List}
 use Prim.Native.Nat.{ℕ, _+_, _≤_, _<_}
 use native.Mathlib.Omega.{arith}
@@ -16,7 +16,7 @@ use Rattle.wire.specs.Fields.{octetsOf}
 use Rattle.store.specs.Layout.{recordSize, places, partSize, idOf, sourceOf, destinationOf}
 use Rattle.store.specs.Book.{bookRecordSize, sameAddress}
 use Rattle.store.specs.Places.{recordAt, OnePlace, onPlace, onPlaces}
-use Rattle.store.specs.Search.{waiting, between, overwritable, isEmpty, hasId, placeOf, pairPlace, emptyPlace, finishedPlace, orElse, newPlace}
+use Rattle.store.specs.Search.{waiting, between, overwritable, isEmpty, hasId, pairPlace, emptyPlace, finishedPlace, orElse, newPlace}
 use Rattle.store.specs.Change.{finished, retexted, corrected}
 use Rattle.store.specs.Account.{accountOk}
 use Rattle.store.specs.declared.places.Found.{Found}
@@ -27,7 +27,6 @@ use Rattle.account.specs.Submit.{Submitted, submitted, toReplace}
 use Rattle.account.specs.Cancel.{Changed, deleted, deletedIf, cancellable, cancelled}
 use Rattle.account.specs.Replace.{correctionOf, replaced}
 use Rattle.account.specs.Outcome.{reported}
-use Rattle.wellformed.specs.Rules.{SubmitHolds, ReplaceHolds}
 use Rattle.wellformed.specs.Effects.{submission, submitter, replacement, replacer, submittedRecord}
 use Rattle.wellformed.specs.Good.{Good, GoodPart}
 use Rattle.wellformed.proofs.Cases.{submitted-cases, cancelled-cases, replaced-cases, reported-cases}

@@ -1,17 +1,16 @@
 -- A well-formed record that an effect changes in its place is well formed again, with the same id. Assumes nothing.
 use mathlib.Core.Path.{_≡_, refl, sym, ap, ap₂, _∙_}
-use mathlib.Core.Bool.{Bool, true, false, _||_}
-use mathlib.Core.Logic.{_⊎_, inl, inr, ⊎-elim, ⊎-map}
+use mathlib.Core.Bool.{true}
+use mathlib.Core.Logic.{_⊎_, inr, ⊎-elim, ⊎-map}
 use mathlib.Core.List.{List, [], _∷_, _++_}
 use Prim.Native.Nat.{ℕ, _+_, _-_, _≤_, _<_}
 use native.Mathlib.Omega.{arith}
-use lib.ListN.{length, take, drop, replicate, getD, length-append}
+use lib.ListN.{length, drop, replicate, getD, length-append}
 use lib.Seq.{getD-take, getD-drop, take-all, drop-append-seam, take-at, getD-at}
-use Rattle.octets.specs.Choice.{if_then_else_}
 use Rattle.octets.specs.Stretch.{part, patch, padded, isZero, zeros}
 use Rattle.octets.specs.Number.{number}
 use Rattle.octets.proofs.StretchLaws.{if-cases, part-part}
-use Rattle.octets.proofs.PatchLaws.{patch-length, part-patch, part-before, part-after, octet-before, octet-after, octet-inside}
+use Rattle.octets.proofs.PatchLaws.{patch-length, part-patch, part-before, part-after, octet-before, octet-inside}
 use Rattle.forms.specs.Field.{isField}
 use Rattle.forms.specs.Time.{sentTime, storedTime}
 use Rattle.forms.specs.declared.text.Form.the-variants.{Ascii}
@@ -20,7 +19,7 @@ use Rattle.store.specs.Record.{addressOk, timeOk}
 use Rattle.store.specs.Change.{finished, retexted, retimed, corrected}
 use Rattle.store.specs.declared.change.Correction.{Correction}
 use Rattle.wellformed.specs.Rules.{Timed}
-use Rattle.wellformed.specs.Good.{GoodEnd, GoodWords, Good}
+use Rattle.wellformed.specs.Good.{GoodWords, Good}
 use Rattle.wellformed.proofs.GoodIs.{or-one, or-second}
 use Rattle.wellformed.proofs.TextFields.{padded-length, every-replicate, sent-stored, sent-length}
 
@@ -70,16 +69,16 @@ module _ (state error : ℕ) (stamp r : List ℕ) where
     put-length = length-append stamp (error ∷ []) ∙ omega (arith, sent-length stamp sent)
 
     -- 1-232 are as they were, and so are 250-255
-    kept : part 1 232 (finished state error stamp r) ≡ part 1 232 r
+    pub finished-kept : part 1 232 (finished state error stamp r) ≡ part 1 232 r
     unfolding finished
-    kept = part-before _ 233 _ 1 232 (omega arith) ∙ part-after r 0 (state ∷ []) 1 232 (omega arith)
+    finished-kept = part-before _ 233 _ 1 232 (omega arith) ∙ part-after r 0 (state ∷ []) 1 232 (omega arith)
 
-    behind-date : part 250 6 (finished state error stamp r) ≡ part 250 6 r
+    pub finished-behind : part 250 6 (finished state error stamp r) ≡ part 250 6 r
     unfolding finished put
-    behind-date = part-after _ 233 put 250 6 (omega (arith, put-length)) ∙ part-after r 0 (state ∷ []) 250 6 (omega arith)
+    finished-behind = part-after _ 233 put 250 6 (omega (arith, put-length)) ∙ part-after r 0 (state ∷ []) 250 6 (omega arith)
 
     pub finished-id : idOf (finished state error stamp r) ≡ idOf r
-    finished-id = ap number (same-part 1 232 r (finished state error stamp r) kept 0 4 (omega arith))
+    finished-id = ap number (same-part 1 232 r (finished state error stamp r) finished-kept 0 4 (omega arith))
 
     pub finished-state : stateOf (finished state error stamp r) ≡ state
     unfolding finished
@@ -88,14 +87,14 @@ module _ (state error : ℕ) (stamp r : List ℕ) where
     room : 233 + length put ≤ length (patch r 0 (state ∷ []))
     room = omega (arith, put-length, patch-length r 0 (state ∷ []))
 
-    date : dateOf (finished state error stamp r) ≡ stamp
+    pub finished-date : dateOf (finished state error stamp r) ≡ stamp
     unfolding finished put
-    date =
+    finished-date =
         part-inside (patch r 0 (state ∷ [])) 233 put 0 16 room (omega (arith, put-length)) ∙ take-at stamp (error ∷ []) 16 (sent-length stamp sent)
 
-    code : errorOf (finished state error stamp r) ≡ error
+    pub finished-error : errorOf (finished state error stamp r) ≡ error
     unfolding finished put
-    code =
+    finished-error =
         octet-inside (patch r 0 (state ∷ [])) 233 put 16 (omega (arith, put-length)) (omega (arith, room, put-length))
         ∙ getD-at stamp error [] 0 16 (sent-length stamp sent)
 
@@ -103,8 +102,8 @@ module _ (state error : ℕ) (stamp r : List ℕ) where
     finished-good last g low high zero =
         let r′ = finished state error stamp r in
         let s = finished-state in
-        let octet = same-octet 1 232 r r′ kept in
-        let field = same-part 1 232 r r′ kept in
+        let octet = same-octet 1 232 r r′ finished-kept in
+        let field = same-part 1 232 r r′ finished-kept in
         record {
           idLow = omega (arith, finished-id, g .idLow);
           idHigh = omega (arith, finished-id, g .idHigh);
@@ -120,10 +119,10 @@ module _ (state error : ℕ) (stamp r : List ℕ) where
             stateLow = omega arith;
             stateHigh = omega arith;
             noDate = λ e. absurd (omega arith);
-            date = λ _. ap storedTime date ∙ sent-stored stamp sent;
-            error = ⊎-elim (λ e. absurd (omega arith)) (λ e. code ∙ zero (sym s ∙ e));
+            date = λ _. ap storedTime finished-date ∙ sent-stored stamp sent;
+            error = ⊎-elim (λ e. absurd (omega arith)) (λ e. finished-error ∙ zero (sym s ∙ e));
           };
-          spare = ap zeros behind-date ∙ g .spare;
+          spare = ap zeros finished-behind ∙ g .spare;
         }
 
 -- ---- a change inside 57-232

@@ -14,7 +14,7 @@ use Rattle.store.specs.Places.{recordAt, onPlace}
 use Rattle.store.specs.Search.{waiting, between, placeOf, newPlace}
 use Rattle.store.specs.Change.{finished, retexted, corrected}
 use Rattle.store.specs.declared.places.Found.{Found}
-use Rattle.store.specs.declared.places.Found.the-variants.{At, Nowhere}
+use Rattle.store.specs.declared.places.Found.the-variants.{At}
 use Rattle.account.specs.Source.{known}
 use Rattle.account.specs.Submit.{Submitted, submitted, toReplace}
 use Rattle.account.specs.Cancel.{Changed, deleted, deletedIf, cancelled}

@@ -1,5 +1,5 @@
 -- `messageOk` says what `Good` says. Assumes nothing.
-use mathlib.Core.Path.{_≡_, refl, sym, ap, _∙_}
+use mathlib.Core.Path.{_≡_, refl, sym, _∙_}
 use mathlib.Core.Bool.{Bool, true, false, not, _&&_, _||_, false≢true, or-true}
 use mathlib.Core.Logic.{_⊎_, inl, inr, ⊎-elim}
 use mathlib.Core.List.{List, [], _∷_}
@@ -9,11 +9,11 @@ use lib.Dec.{eqb, leb}
 use borrow.Author.Tests.{eqb-true, eqb-false, eq-eqb, ne-eqb, leb-true, le-leb}
 use Rattle.octets.specs.Choice.{if_then_else_}
 use Rattle.octets.specs.Stretch.{every, zeros}
-use Rattle.octets.proofs.StretchLaws.{and-left, and-right, and-both, or-left, or-right, if-cases, if-true, if-false}
+use Rattle.octets.proofs.StretchLaws.{and-left, and-right, and-both, if-cases, if-true, if-false}
 use Rattle.forms.specs.Class.{within}
 use Rattle.forms.specs.Time.{storedTime}
 use Rattle.forms.proofs.ClassLaws.{within-low, within-high}
-use Rattle.store.specs.Layout.{stateOf, idOf, dateOf, errorOf, spareOf}
+use Rattle.store.specs.Layout.{stateOf, idOf, dateOf, errorOf}
 use Rattle.store.specs.Record.{textOk, fieldsOk, endOk, messageOk, recordOk}
 use Rattle.wellformed.specs.Good.{GoodEnd, GoodWords, Good}
 

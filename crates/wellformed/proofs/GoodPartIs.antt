@@ -1,14 +1,13 @@
 -- `accountOk` says what `GoodPart` says, with a used and well-formed book record. Assumes nothing.
-use mathlib.Core.Path.{_≡_, refl, sym, ap, _∙_}
-use mathlib.Core.Bool.{Bool, true, false, not, _&&_, _||_}
+use mathlib.Core.Path.{_≡_, refl, sym, ap}
+use mathlib.Core.Bool.{Bool, true, false, not, _||_}
 use mathlib.Core.List.{List, [], _∷_}
-use Prim.Native.Nat.{ℕ, zero, suc, _+_, _*_, _<_}
+use Prim.Native.Nat.{ℕ, zero, suc, _<_}
 use native.Mathlib.Omega.{arith}
 use lib.ListN.{length, getD}
-use lib.Dec.{eqb, ltb}
-use borrow.Author.Tests.{ltb-true, ltb-false, eqb-false, ne-eqb, not-true}
+use lib.Dec.{eqb}
+use borrow.Author.Tests.{eqb-false, ne-eqb, not-true}
 use Rattle.octets.specs.Stretch.{every}
-use Rattle.octets.specs.Rows.{rows}
 use Rattle.octets.proofs.StretchLaws.{and-left, and-right, and-both, every-at}
 use Rattle.octets.proofs.RowsLaws.{rows-length, rows-at}
 use Rattle.store.specs.Layout.{recordSize, places, idOf}

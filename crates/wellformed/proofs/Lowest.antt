@@ -1,17 +1,15 @@
 -- A place that a search finds is one of the sixteen, and the record there passes the search's test. Assumes nothing.
-use mathlib.Core.Path.{_≡_, refl, sym, ap, subst, _∙_}
-use mathlib.Core.Bool.{Bool, true, false, not, _&&_, _||_, false≢true}
+use mathlib.Core.Path.{_≡_, sym, ap, subst, _∙_}
+use mathlib.Core.Bool.{Bool, true, false≢true}
 use mathlib.Core.List.{List, [], _∷_}
-use Prim.Native.Nat.{ℕ, suc, _+_, _*_, _<_}
+use Prim.Native.Nat.{ℕ, suc, _+_, _<_}
 use native.Mathlib.Nat.{zero-add, add-zero}
 use native.Mathlib.Omega.{arith}
 use lib.ListN.{length, getD}
-use lib.Dec.{ltb}
-use Rattle.octets.specs.Rows.{rows}
 use Rattle.octets.proofs.StretchLaws.{and-left, if-cases}
 use Rattle.octets.proofs.RowsLaws.{rows-length, rows-at}
 use Rattle.store.specs.Layout.{recordSize, places}
-use Rattle.store.specs.Places.{records, recordAt, OnePlace, over, none, keep, foundOf, lowest}
+use Rattle.store.specs.Places.{records, recordAt, OnePlace, over, none, keep, lowest}
 use Rattle.store.specs.declared.places.Found.{Found}
 use Rattle.store.specs.declared.places.Found.the-variants.{At, Nowhere}
 use Rattle.store.specs.declared.places.Best.{Best}

@@ -1,7 +1,7 @@
 -- A new record is well formed and waiting, and has its id. Assumes nothing.
 use mathlib.Core.Path.{_≡_, refl, sym, ap, ap₂, _∙_}
-use mathlib.Core.Bool.{Bool, true, false, _||_}
-use mathlib.Core.Logic.{_⊎_, inl, inr, ⊎-elim, ⊎-map}
+use mathlib.Core.Bool.{true}
+use mathlib.Core.Logic.{⊎-map}
 use mathlib.Core.List.{List, [], _∷_, _++_, append-assoc}
 use Prim.Native.Nat.{ℕ, suc, _+_, _-_, _≤_, _<_}
 use native.Mathlib.Omega.{arith}
@@ -13,14 +13,14 @@ use Rattle.octets.proofs.NumberLaws.{octets4-length, number-octets4}
 use Rattle.forms.specs.Time.{sentTime, storedTime}
 use Rattle.forms.specs.Field.{isField}
 use Rattle.forms.specs.declared.text.Form.the-variants.{Ascii}
-use Rattle.store.specs.Layout.{stateOf, idOf, sourceOf, destinationOf, serviceOf, priorityOf, scheduleOf, validityOf, registeredOf, defaultOf, lengthOf, textFieldOf, dateOf, errorOf, spareOf}
+use Rattle.store.specs.Layout.{stateOf, idOf, defaultOf, lengthOf, textFieldOf}
 use Rattle.store.specs.Record.{addressOk, timeOk}
 use Rattle.store.specs.Change.{head, terms, message, newRecord}
 use Rattle.store.specs.declared.change.Fields.{Fields}
 use Rattle.wellformed.specs.Rules.{Timed}
-use Rattle.wellformed.specs.Good.{GoodEnd, GoodWords, Good, GoodFields}
+use Rattle.wellformed.specs.Good.{Good, GoodFields}
 use Rattle.wellformed.proofs.GoodIs.{or-one, or-either}
-use Rattle.wellformed.proofs.TextFields.{padded-length, every-replicate, sent-stored, sent-length}
+use Rattle.wellformed.proofs.TextFields.{padded-length, every-replicate, sent-stored}
 
 -- what stands at k, and what stands behind it
 module _ (r a c : List ℕ) (k m : ℕ) (e : drop k r ≡ a ++ c) (size : length a ≡ m) where

@@ -1,5 +1,5 @@
 -- A change at one place leaves the others, and a change at each place changes each by itself. Assumes nothing.
-use mathlib.Core.Path.{_≡_, refl, sym, ap, _∙_}
+use mathlib.Core.Path.{_≡_, refl, ap, _∙_}
 use mathlib.Core.Bool.{Bool, true, false}
 use mathlib.Core.List.{List}
 use Prim.Native.Nat.{ℕ, zero, suc, _+_, _*_, _≤_, _<_}
@@ -7,7 +7,7 @@ use native.Mathlib.Omega.{arith}
 use lib.ListN.{length, length-take}
 use lib.Dec.{ltb, eqb}
 use borrow.Author.Tests.{ltb-true, ltb-false, eqb-true, eqb-false}
-use Rattle.octets.specs.Stretch.{part, patch}
+use Rattle.octets.specs.Stretch.{part}
 use Rattle.octets.proofs.StretchLaws.{part-length}
 use Rattle.octets.proofs.PatchLaws.{patch-length, part-patch, part-before, part-after}
 use Rattle.store.specs.Layout.{recordSize, places, partSize}

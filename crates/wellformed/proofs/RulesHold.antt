@@ -1,14 +1,14 @@
 -- What is read of a body passes the rules of its fields, whether the body is refused or not: a field that is refused, and each behind it, reads as
 -- none. So it does where the status is 0. Assumes nothing.
-use mathlib.Core.Path.{_≡_, refl, sym, ap, _∙_}
-use mathlib.Core.Bool.{Bool, true, false, not, _&&_, _||_, or-true}
+use mathlib.Core.Path.{_≡_, refl}
+use mathlib.Core.Bool.{Bool, true, false, or-true}
 use mathlib.Core.Logic.{_⊎_, inl, inr}
-use mathlib.Core.List.{List, [], _∷_}
-use Prim.Native.Nat.{ℕ, _+_, _-_, _≤_, _<_}
+use mathlib.Core.List.{List, []}
+use Prim.Native.Nat.{ℕ, _+_, _≤_, _<_}
 use native.Mathlib.Omega.{arith}
 use lib.ListN.{length, take, drop, replicate, length-take, length-drop}
 use lib.Seq.{take-all, take-take, length-take-le}
-use lib.Dec.{eqb, ltb}
+use lib.Dec.{eqb}
 use borrow.Author.Tests.{eqb-true, eqb-false, ne-eqb, ltb-false}
 use Rattle.octets.specs.Stretch.{every, zeros, padded}
 use Rattle.octets.proofs.StretchLaws.{and-left, and-true, if-cases, if-true}
@@ -21,7 +21,7 @@ use Rattle.forms.specs.declared.text.Form.the-variants.{Ascii, AddressOrNone}
 use Rattle.forms.proofs.ClassLaws.{lead-within}
 use Rattle.wire.specs.Cursor.{refused, notBoth}
 use Rattle.wire.specs.Fields.{octetAt, textAt, addressAt, timeAt, spanAt, shortAt, window, Inside, octetsOf}
-use Rattle.wire.specs.Status.{invalidCommandLength, invalidMessageLength, invalidParameter}
+use Rattle.wire.specs.Status.{invalidCommandLength, invalidParameter}
 use Rattle.wire.specs.declared.cursor.Cursor.{Cursor}
 use Rattle.wire.specs.declared.fields.SpanRead.{SpanRead}
 use Rattle.wire.specs.declared.fields.TimeRead.{TimeRead}

@@ -1,20 +1,20 @@
 -- The source of a request is well formed: an address that is given, or the callback of a well-formed book record. Assumes nothing.
-use mathlib.Core.Path.{_≡_, refl, sym, ap, ap₂, _∙_}
-use mathlib.Core.Bool.{Bool, true, false, not, _&&_, _||_, false≢true}
+use mathlib.Core.Path.{_≡_, refl, sym, ap, _∙_}
+use mathlib.Core.Bool.{Bool, true, false, not, _&&_}
 use mathlib.Core.List.{List, [], _∷_, _++_}
-use Prim.Native.Nat.{ℕ, suc, _+_, _-_, _≤_}
+use Prim.Native.Nat.{ℕ, _-_, _≤_}
 use native.Mathlib.Omega.{arith}
 use lib.ListN.{length, take, drop, getD, length-take}
 use lib.Seq.{getD-take, getD-drop, take-all, take-suc, take-take, take-append-le, drop-append-le}
-use lib.Dec.{eqb, leb, eqb·suc-zero}
-use borrow.Author.Tests.{eqb-true, eqb-false, ne-eqb}
+use lib.Dec.{eqb, eqb·suc-zero}
+use borrow.Author.Tests.{eqb-true, ne-eqb}
 use Rattle.octets.specs.Choice.{if_then_else_}
 use Rattle.octets.specs.Stretch.{part, every, isZero, zeros}
-use Rattle.octets.proofs.StretchLaws.{and-left, and-right, and-both, if-cases, if-true, if-false, part-length, part-part}
+use Rattle.octets.proofs.StretchLaws.{and-left, and-right, and-both, if-cases, if-false, part-length, part-part}
 use Rattle.forms.specs.Class.{inClass, lead}
 use Rattle.forms.specs.Text.{empty, given, givenAll, afterSpaces, formed}
 use Rattle.forms.specs.Field.{textOf, isField}
-use Rattle.forms.specs.declared.class.Class.the-variants.{NotNul, Space, Decimal}
+use Rattle.forms.specs.declared.class.Class.the-variants.{NotNul, Decimal}
 use Rattle.forms.specs.declared.text.Form.{Form}
 use Rattle.forms.specs.declared.text.Form.the-variants.{Ascii, Digits, Address, AddressOrNone}
 use Rattle.forms.proofs.ClassLaws.{lead-within, within-low}

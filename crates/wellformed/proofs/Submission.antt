@@ -1,9 +1,9 @@
 -- The record of an accepted submission: 256 octets, well formed, waiting, with its id. Assumes nothing.
-use mathlib.Core.Path.{_≡_, refl, sym, ap, _∙_}
+use mathlib.Core.Path.{_≡_}
 use mathlib.Core.Bool.{true, false}
 use mathlib.Core.Logic.{⊎-map}
 use mathlib.Core.List.{List}
-use Prim.Native.Nat.{ℕ, _+_, _≤_, _<_}
+use Prim.Native.Nat.{ℕ, _≤_, _<_}
 use native.Mathlib.Omega.{arith}
 use lib.ListN.{length, length-take}
 use Rattle.wire.specs.Fields.{octetsOf}
@@ -13,7 +13,6 @@ use Rattle.store.specs.Book.{bookRecordSize, usedOk}
 use Rattle.account.specs.Source.{noAddress}
 use Rattle.account.specs.Submit.{fieldsOf}
 use Rattle.wire.specs.declared.fields.Span.{Span}
-use Rattle.wellformed.specs.Rules.{SubmitHolds}
 use Rattle.wellformed.specs.Effects.{submission, submitter, submittedRecord}
 use Rattle.wellformed.specs.Good.{Good, GoodFields}
 use Rattle.wellformed.proofs.TextFields.{padded-field}

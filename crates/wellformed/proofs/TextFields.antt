@@ -1,16 +1,16 @@
 -- Laws of texts in zero-padded fields and of times. Assumes nothing.
-use mathlib.Core.Path.{_≡_, refl, sym, ap, _∙_}
-use mathlib.Core.Bool.{Bool, true, false, _&&_, false≢true}
+use mathlib.Core.Path.{_≡_, refl, ap, _∙_}
+use mathlib.Core.Bool.{Bool, true, false, false≢true}
 use mathlib.Core.List.{List, [], _∷_, _++_}
-use Prim.Native.Nat.{ℕ, zero, suc, _+_, _-_, _≤_}
+use Prim.Native.Nat.{ℕ, zero, suc, _-_, _≤_}
 use native.Mathlib.Omega.{arith}
-use lib.ListN.{length, take, drop, replicate, length-append, length-replicate}
+use lib.ListN.{length, take, replicate, length-append, length-replicate}
 use lib.Seq.{take-append-seam, drop-append-seam}
 use lib.Dec.{eqb}
 use borrow.Author.Tests.{eqb-true}
 use Rattle.octets.specs.Choice.{if_then_else_}
-use Rattle.octets.specs.Stretch.{every, isZero, zeros, padded}
-use Rattle.octets.proofs.StretchLaws.{and-left, and-right, and-both, if-cases, if-true, if-false}
+use Rattle.octets.specs.Stretch.{every, isZero, padded}
+use Rattle.octets.proofs.StretchLaws.{and-left, and-right, and-both, if-cases, if-true}
 use Rattle.forms.specs.Class.{inClass, lead}
 use Rattle.forms.specs.Text.{formed}
 use Rattle.forms.specs.Time.{isTime, sentTime, storedTime}
