@@ -1,0 +1,17 @@
+//! Plays a history on two engines and compares everything that a caller can see.
+
+mod difference;
+mod engine;
+mod history;
+mod shrink;
+mod tally;
+mod words;
+mod world;
+
+pub use difference::{compare, Difference};
+pub use engine::{Engine, Moved, Taken};
+pub use history::{History, Outcome, Sizes, Step, Take, PLAIN_STAMP};
+pub use shrink::shrink;
+pub use tally::Tally;
+pub use words::describe;
+pub use world::{Answer, World};

@@ -1,0 +1,105 @@
+//! The comparison itself.
+
+use super::engine::Engine;
+use super::history::{History, Step};
+use super::tally::Tally;
+use super::world::{Answer, World};
+use crate::centre::{State, PLACE};
+
+/// The first step after which two engines differ, and in what.
+#[derive(Clone, Debug, PartialEq, Eq)]
+pub struct Difference {
+    pub step: usize,
+    pub answers: [Answer; 2],
+    pub replies: [Vec<u8>; 2],
+    pub what: String,
+}
+
+/// Plays a history on both engines, each with a world of its own, and compares after each
+/// step.
+pub fn compare(
+    first: &dyn Engine,
+    second: &dyn Engine,
+    history: &History,
+    tally: &mut Tally,
+) -> Option<Difference> {
+    let mut worlds = [World::new(history), World::new(history)];
+    for (nth, step) in history.steps.iter().enumerate() {
+        let [one, other] = &mut worlds;
+        one.clear_space();
+        other.clear_space();
+        let answers = [one.play(first, step), other.play(second, step)];
+        tally.count(step, &answers[0], one.space());
+        if let Some(what) = difference(step, &answers, one, other) {
+            return Some(Difference {
+                step: nth,
+                answers,
+                replies: [reply(one, &answers[0]), reply(other, &answers[1])],
+                what,
+            });
+        }
+    }
+    None
+}
+
+fn reply(world: &World, answer: &Answer) -> Vec<u8> {
+    let end = answer.written.min(world.space().len());
+    world.space()[..end].to_vec()
+}
+
+fn difference(step: &Step, answers: &[Answer; 2], one: &World, other: &World) -> Option<String> {
+    answer_difference(step, answers)
+        .or_else(|| state_difference(one, other))
+        .or_else(|| space_difference(one, other))
+        .or_else(|| table_difference(one, other))
+}
+
+fn answer_difference(step: &Step, [one, other]: &[Answer; 2]) -> Option<String> {
+    let unequal = |what: &str, a: usize, b: usize| (a != b).then(|| format!("{what}: {a} or {b}"));
+    unequal("number", one.number.into(), other.number.into())
+        .or_else(|| unequal("octets consumed", one.consumed, other.consumed))
+        .or_else(|| unequal("octets written", one.written, other.written))
+        .or_else(|| match step {
+            Step::Pick { .. } => unequal("picked record at", one.picked, other.picked),
+            _ => None,
+        })
+}
+
+/// States are compared by what they mean: a kind above 4 counts as ended.
+fn state_difference(one: &World, other: &World) -> Option<String> {
+    let (one, other) = (State::from(&one.state), State::from(&other.state));
+    for (session, (a, b)) in one.entries.iter().zip(&other.entries).enumerate() {
+        if a != b {
+            return Some(format!("entry of session {session}: {a:?} or {b:?}"));
+        }
+    }
+    for (account, (a, b)) in one.lasts.iter().zip(&other.lasts).enumerate() {
+        if a != b {
+            return Some(format!("last id of account {account}: {a:08X} or {b:08X}"));
+        }
+    }
+    None
+}
+
+fn space_difference(one: &World, other: &World) -> Option<String> {
+    let (at, a, b) = first_difference(one.space(), other.space())?;
+    Some(format!("response space, octet {at}: {a:02X} or {b:02X}"))
+}
+
+fn table_difference(one: &World, other: &World) -> Option<String> {
+    let (at, a, b) = first_difference(one.table_and_behind(), other.table_and_behind())?;
+    let (place, octet) = (at / PLACE, at % PLACE);
+    Some(format!(
+        "table, account {} place {} octet {octet}: {a:02X} or {b:02X}",
+        place / 16,
+        place % 16
+    ))
+}
+
+fn first_difference(one: &[u8], other: &[u8]) -> Option<(usize, u8, u8)> {
+    if one == other {
+        return None;
+    }
+    let at = one.iter().zip(other).position(|(a, b)| a != b)?;
+    Some((at, one[at], other[at]))
+}

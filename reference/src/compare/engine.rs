@@ -1,0 +1,113 @@
+//! What can be played: the operations over lent octets and a plain state.
+
+use crate::centre::{Lent, PlainState, Reference, Refusal, Report, State, DONE, TABLE};
+
+/// The answer of opening and closing, laid out as the C interface has it.
+#[derive(Clone, Copy, Debug, PartialEq, Eq)]
+#[repr(C)]
+pub struct Moved {
+    pub number: u8,
+    pub state: PlainState,
+}
+
+/// The answer of taking octets, laid out as the C interface has it.
+#[derive(Clone, Copy, Debug, PartialEq, Eq)]
+#[repr(C)]
+pub struct Taken {
+    pub number: u8,
+    pub consumed: usize,
+    pub written: usize,
+    pub state: PlainState,
+}
+
+pub trait Engine {
+    fn name(&self) -> &'static str;
+
+    fn open(&self, state: &PlainState, session: usize) -> Moved;
+
+    fn close(&self, state: &PlainState, session: usize) -> Moved;
+
+    fn take(
+        &self,
+        lent: Lent<'_>,
+        state: &PlainState,
+        session: usize,
+        octets: &[u8],
+        stamp: &[u8],
+        space: &mut [u8],
+    ) -> Taken;
+
+    fn outcome(&self, lent: Lent<'_>, state: &PlainState, stamp: &[u8], report: Report) -> u8;
+
+    fn pick_number(&self, book: &[u8], table: &[u8], state: &PlainState, account: usize) -> u8;
+
+    /// The octet at which the picked record starts, or the table's size where there is none.
+    fn pick_at(&self, book: &[u8], table: &[u8], state: &PlainState, account: usize) -> usize;
+}
+
+impl Engine for Reference {
+    fn name(&self) -> &'static str {
+        self.fault().map_or("reference", |fault| fault.name())
+    }
+
+    fn open(&self, state: &PlainState, session: usize) -> Moved {
+        let mut after = State::from(state);
+        let result = Reference::open(self, &mut after, session);
+        Moved {
+            number: number(result),
+            state: PlainState::from(&after),
+        }
+    }
+
+    fn close(&self, state: &PlainState, session: usize) -> Moved {
+        let mut after = State::from(state);
+        let result = Reference::close(self, &mut after, session);
+        Moved {
+            number: number(result),
+            state: PlainState::from(&after),
+        }
+    }
+
+    fn take(
+        &self,
+        lent: Lent<'_>,
+        state: &PlainState,
+        session: usize,
+        octets: &[u8],
+        stamp: &[u8],
+        space: &mut [u8],
+    ) -> Taken {
+        let mut after = State::from(state);
+        let result = Reference::take(self, lent, &mut after, session, octets, stamp, space);
+        let (consumed, written) = result.map_or((0, 0), |taken| (taken.consumed, taken.written));
+        Taken {
+            number: number(result),
+            consumed,
+            written,
+            state: PlainState::from(&after),
+        }
+    }
+
+    fn outcome(&self, lent: Lent<'_>, state: &PlainState, stamp: &[u8], report: Report) -> u8 {
+        number(Reference::outcome(
+            self,
+            lent,
+            &State::from(state),
+            stamp,
+            report,
+        ))
+    }
+
+    fn pick_number(&self, book: &[u8], table: &[u8], state: &PlainState, account: usize) -> u8 {
+        number(self.pick(book, table, &State::from(state), account))
+    }
+
+    fn pick_at(&self, book: &[u8], table: &[u8], state: &PlainState, account: usize) -> usize {
+        self.pick(book, table, &State::from(state), account)
+            .unwrap_or(TABLE)
+    }
+}
+
+fn number<T>(result: Result<T, Refusal>) -> u8 {
+    result.err().map_or(DONE, Refusal::number)
+}

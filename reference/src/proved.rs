@@ -1,0 +1,157 @@
+//! The proved library behind its C interface, as an engine.
+//!
+//! This is the only place that calls foreign code. Slices give what the C side asks of its
+//! caller: pointers that are valid for their lengths, and none that overlaps one that is
+//! written to.
+
+use crate::centre::{Lent, PlainState, Report};
+use crate::compare::{Engine, Moved, Taken};
+
+extern "C" {
+    fn inverook_open(state: PlainState, session: usize) -> Moved;
+
+    fn inverook_close(state: PlainState, session: usize) -> Moved;
+
+    fn inverook_take(
+        book: *const u8,
+        book_length: usize,
+        table: *mut u8,
+        table_length: usize,
+        state: PlainState,
+        session: usize,
+        octets: *const u8,
+        octets_length: usize,
+        stamp: *const u8,
+        stamp_length: usize,
+        space: *mut u8,
+        space_length: usize,
+    ) -> Taken;
+
+    fn inverook_outcome(
+        book: *const u8,
+        book_length: usize,
+        table: *mut u8,
+        table_length: usize,
+        state: PlainState,
+        stamp: *const u8,
+        stamp_length: usize,
+        account: usize,
+        id: u32,
+        outcome: u8,
+        error: u8,
+    ) -> u8;
+
+    fn inverook_pick_number(
+        book: *const u8,
+        book_length: usize,
+        table: *const u8,
+        table_length: usize,
+        state: PlainState,
+        account: usize,
+    ) -> u8;
+
+    fn inverook_pick_at(
+        book: *const u8,
+        book_length: usize,
+        table: *const u8,
+        table_length: usize,
+        state: PlainState,
+        account: usize,
+    ) -> usize;
+}
+
+/// libinverook.a.
+#[derive(Clone, Copy, Debug, Default)]
+pub struct Proved;
+
+impl Engine for Proved {
+    fn name(&self) -> &'static str {
+        "proved"
+    }
+
+    fn open(&self, state: &PlainState, session: usize) -> Moved {
+        // SAFETY: the call takes and gives values only.
+        unsafe { inverook_open(*state, session) }
+    }
+
+    fn close(&self, state: &PlainState, session: usize) -> Moved {
+        // SAFETY: the call takes and gives values only.
+        unsafe { inverook_close(*state, session) }
+    }
+
+    fn take(
+        &self,
+        lent: Lent<'_>,
+        state: &PlainState,
+        session: usize,
+        octets: &[u8],
+        stamp: &[u8],
+        space: &mut [u8],
+    ) -> Taken {
+        // SAFETY: each pointer comes with its slice's length, and the two that are written
+        // to are exclusive borrows. The library keeps none of them.
+        unsafe {
+            inverook_take(
+                lent.book.as_ptr(),
+                lent.book.len(),
+                lent.table.as_mut_ptr(),
+                lent.table.len(),
+                *state,
+                session,
+                octets.as_ptr(),
+                octets.len(),
+                stamp.as_ptr(),
+                stamp.len(),
+                space.as_mut_ptr(),
+                space.len(),
+            )
+        }
+    }
+
+    fn outcome(&self, lent: Lent<'_>, state: &PlainState, stamp: &[u8], report: Report) -> u8 {
+        // SAFETY: as in `take`.
+        unsafe {
+            inverook_outcome(
+                lent.book.as_ptr(),
+                lent.book.len(),
+                lent.table.as_mut_ptr(),
+                lent.table.len(),
+                *state,
+                stamp.as_ptr(),
+                stamp.len(),
+                report.account,
+                report.id,
+                report.outcome,
+                report.error,
+            )
+        }
+    }
+
+    fn pick_number(&self, book: &[u8], table: &[u8], state: &PlainState, account: usize) -> u8 {
+        // SAFETY: each pointer comes with its slice's length; both are only read.
+        unsafe {
+            inverook_pick_number(
+                book.as_ptr(),
+                book.len(),
+                table.as_ptr(),
+                table.len(),
+                *state,
+                account,
+            )
+        }
+    }
+
+    fn pick_at(&self, book: &[u8], table: &[u8], state: &PlainState, account: usize) -> usize {
+        // SAFETY: as in `pick_number`.
+        unsafe {
+            inverook_pick_at(
+                book.as_ptr(),
+                book.len(),
+                table.as_ptr(),
+                table.len(),
+                *state,
+                account,
+            )
+        }
+    }
+}

@@ -1,0 +1,14 @@
+//! The independent implementation against the outline, rule by rule.
+
+mod bureau;
+mod companions;
+mod comparison;
+mod effects;
+mod examples;
+mod fields;
+mod numbers;
+mod printed;
+#[cfg(feature = "proved")]
+mod proved;
+mod records;
+mod wrapped;
