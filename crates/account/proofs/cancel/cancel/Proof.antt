@@ -1,37 +1,27 @@
+-- `account::cancel::cancel` meets its contract. Assumes nothing.
 use borrow.Author.Tests.{eq-eqb, ne-eqb}
 use Rattle.octets.specs.Choice.{if_then_else_}
 use Rattle.account.specs.Cancel.{cancelled}
 use borrow.Author.Needs.{needs}
 use Rattle.account.proofs.cancel.cancel.Statement.{statement}
 use Rattle.account.proofs.cancel.cancel.Tie as tie
-use Rattle.account.proofs.cancel.cancel.Reads as reads
-use Rattle.account.proofs.cancel.cancel.Lts as lts
-use Rattle.account.proofs.cancel.cancel_by.Reads as cancel-by-reads
-use Rattle.account.proofs.source.source_for.Reads as source-for-reads
-use Rattle.requests.proofs.cancel.read_cancel.Reads as read-cancel-reads
 
--- src/cancel.rt:90:9
 read-cancel-requires : tie.Need-read-cancel-requires
 read-cancel-requires c κs = search needs
 
--- src/cancel.rt:93:9
 returns : tie.Need-returns
 unfolding cancelled if_then_else_
 returns c = rw (← (c .before .read-cancel .ensures .0), ne-eqb _ _ (c .if1 .taken))
 
--- src/cancel.rt:97:9
 source-for-requires : tie.Need-source-for-requires
 source-for-requires c κs = search needs
 
--- src/cancel.rt:102:5
 cancel-by-requires : tie.Need-cancel-by-requires
 cancel-by-requires c κs = search needs
 
--- src/cancel.rt:86:1
 same-length : tie.Need-same-length
 same-length c = search needs
 
--- src/cancel.rt:86:1
 returns-2 : tie.Need-returns-2
 unfolding cancelled if_then_else_
 returns-2 c = rw (← (c .before .before .before .before .before .before .before .before .before .before .before .before .before .read-cancel .ensures .0), eq-eqb _ _ (c .before .before .before .before .before .before .before .before .before .before .before .before .if1 .left), ← (c .before .before .before .before .before .before .before .before .before .source-for .ensures)) (c .before .before .cancel-by .ensures)

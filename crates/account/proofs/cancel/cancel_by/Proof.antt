@@ -1,40 +1,29 @@
+-- `account::cancel::cancel_by` meets its contract. Assumes nothing.
 use borrow.Author.Needs.{needs}
 use Rattle.account.proofs.cancel.cancel_by.Statement.{statement}
 use Rattle.account.proofs.cancel.cancel_by.Tie as tie
-use Rattle.account.proofs.cancel.cancel_by.Reads as reads
-use Rattle.account.proofs.cancel.cancel_by.Lts as lts
-use Rattle.account.proofs.cancel.cancel_all.Reads as cancel-all-reads
-use Rattle.account.proofs.cancel.cancel_one.Reads as cancel-one-reads
 
--- src/cancel.rt:81:40
 enum-told : tie.Need-enum-told
 enum-told c = search needs
 
--- src/cancel.rt:81:29
 cancel-all-requires : tie.Need-cancel-all-requires
 cancel-all-requires c κs = search needs
 
--- src/cancel.rt:82:27
 enum-known-id : tie.Need-enum-known-id
 enum-known-id c = search needs
 
--- src/cancel.rt:82:33
 cancel-one-requires : tie.Need-cancel-one-requires
 cancel-one-requires c κs = search needs
 
--- src/cancel.rt:76:1
 same-length : tie.Need-same-length
 same-length c = search needs
 
--- src/cancel.rt:76:1
 returns : tie.Need-returns
 returns c = rw (c .before .before .before .before .enum-told .given .1) (c .before .before .cancel-all .ensures)
 
--- src/cancel.rt:76:1
 same-length-2 : tie.Need-same-length-2
 same-length-2 c = search needs
 
--- src/cancel.rt:76:1
 returns-2 : tie.Need-returns-2
 returns-2 c = rw (c .before .before .before .before .before .id .given .1) (c .before .before .cancel-one .ensures)
 

@@ -1,4 +1,5 @@
-use mathlib.Core.Path.{_≡_, sym, _∙_, subst}
+-- `account::outcome::report` meets its contract. Assumes nothing.
+use mathlib.Core.Path.{sym, _∙_, subst}
 use Prim.Native.Nat.{_<_}
 use native.Mathlib.Omega.{arith}
 use borrow.Author.Tests.{not-true, not-false}
@@ -8,55 +9,39 @@ use Rattle.account.specs.Outcome.{reported}
 use borrow.Author.Needs.{needs}
 use Rattle.account.proofs.outcome.report.Statement.{statement}
 use Rattle.account.proofs.outcome.report.Tie as tie
-use Rattle.account.proofs.outcome.report.Reads as reads
-use Rattle.account.proofs.outcome.report.Lts as lts
-use Rattle.store.proofs.change.finish.Reads as finish-reads
-use Rattle.store.proofs.places.is_waiting_at.Reads as is-waiting-at-reads
-use Rattle.store.proofs.search.find_id.Reads as find-id-reads
 
--- src/outcome.rt:15:9
 find-id-requires : tie.Need-find-id-requires
 find-id-requires c κs = search needs
 
--- src/outcome.rt:16:19
 enum-known-found : tie.Need-enum-known-found
 enum-known-found c = search needs
 
--- src/outcome.rt:17:9
 enum-told : tie.Need-enum-told
 enum-told c = search needs
 
--- src/outcome.rt:17:9
 same-length : tie.Need-same-length
 same-length c = search needs
 
--- src/outcome.rt:17:9
 returns : tie.Need-returns
 unfolding reported
 returns c = rw (sym (c .before .before .find-id .ensures .0) ∙ c .enum-told .given .1)
 
--- src/outcome.rt:19:9
 is-waiting-at-requires : tie.Need-is-waiting-at-requires
 is-waiting-at-requires c κs = let b : c .before .before .found .given .0 .0 < 16 = subst OnePlace (c .before .before .found .given .1) (c .before .before .before .before .find-id .ensures .1) in omega arith
 
--- src/outcome.rt:20:9
 same-length-2 : tie.Need-same-length-2
 same-length-2 c = search needs
 
--- src/outcome.rt:20:9
 returns-2 : tie.Need-returns-2
 unfolding reported if_then_else_
 returns-2 c = rw (sym (c .before .before .before .before .before .before .find-id .ensures .0) ∙ c .before .before .before .before .found .given .1, sym (c .before .is-waiting-at .ensures) ∙ not-true _ (c .if1 .taken))
 
--- src/outcome.rt:22:5
 finish-requires : tie.Need-finish-requires
 finish-requires c κs = let b : c .before .before .before .before .before .found .given .0 .0 < 16 = subst OnePlace (c .before .before .before .before .before .found .given .1) (c .before .before .before .before .before .before .before .find-id .ensures .1) in omega arith
 
--- src/outcome.rt:11:1
 same-length-3 : tie.Need-same-length-3
 same-length-3 c = search needs
 
--- src/outcome.rt:11:1
 returns-3 : tie.Need-returns-3
 unfolding reported if_then_else_
 returns-3 c = rw (sym (c .before .before .before .before .before .before .before .before .before .before .find-id .ensures .0) ∙ c .before .before .before .before .before .before .before .before .found .given .1, sym (c .before .before .before .before .before .is-waiting-at .ensures) ∙ not-false _ (c .before .before .before .before .if1 .left), c .before .before .finish .ensures)

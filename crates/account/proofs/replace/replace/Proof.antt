@@ -1,37 +1,27 @@
+-- `account::replace::replace` meets its contract. Assumes nothing.
 use borrow.Author.Tests.{eq-eqb, ne-eqb}
 use Rattle.octets.specs.Choice.{if_then_else_}
 use Rattle.account.specs.Replace.{replaced}
 use borrow.Author.Needs.{needs}
 use Rattle.account.proofs.replace.replace.Statement.{statement}
 use Rattle.account.proofs.replace.replace.Tie as tie
-use Rattle.account.proofs.replace.replace.Reads as reads
-use Rattle.account.proofs.replace.replace.Lts as lts
-use Rattle.account.proofs.replace.replace_in.Reads as replace-in-reads
-use Rattle.account.proofs.source.source_for.Reads as source-for-reads
-use Rattle.requests.proofs.replace.read_replace.Reads as read-replace-reads
 
--- src/replace.rt:59:9
 read-replace-requires : tie.Need-read-replace-requires
 read-replace-requires c κs = search needs
 
--- src/replace.rt:62:9
 returns : tie.Need-returns
 unfolding replaced if_then_else_
 returns c = rw (← (c .before .read-replace .ensures .0), ne-eqb _ _ (c .if1 .taken))
 
--- src/replace.rt:66:9
 source-for-requires : tie.Need-source-for-requires
 source-for-requires c κs = search needs
 
--- src/replace.rt:68:5
 replace-in-requires : tie.Need-replace-in-requires
 replace-in-requires c κs = (c .before .before .before .before .before .before .before .before .before .before .before .pre .1, c .before .before .before .before .before .before .before .read-replace .ensures .1)
 
--- src/replace.rt:55:1
 same-length : tie.Need-same-length
 same-length c = search needs
 
--- src/replace.rt:55:1
 returns-2 : tie.Need-returns-2
 unfolding replaced if_then_else_
 returns-2 c = rw (← (c .before .before .before .before .before .before .before .before .before .before .read-replace .ensures .0), eq-eqb _ _ (c .before .before .before .before .before .before .before .before .before .if1 .left), ← (c .before .before .before .before .before .before .source-for .ensures)) (c .before .before .replace-in .ensures)

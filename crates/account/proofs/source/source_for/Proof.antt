@@ -1,6 +1,7 @@
-use mathlib.Core.Path.{_≡_, sym, _∙_}
+-- `account::source::source_for` meets its contract. Assumes nothing.
+use mathlib.Core.Path.{sym, _∙_}
 use native.Mathlib.Omega.{arith}
-use lib.ListN.{length, replicate}
+use lib.ListN.{replicate}
 use Rattle.octets.specs.Choice.{if_then_else_}
 use Rattle.octets.proofs.PatchLaws.{patch-whole}
 use Rattle.octets.proofs.StretchLaws.{part-length}
@@ -9,41 +10,29 @@ use Rattle.account.specs.Source.{sourceFor}
 use borrow.Author.Needs.{needs}
 use Rattle.account.proofs.source.source_for.Statement.{statement}
 use Rattle.account.proofs.source.source_for.Tie as tie
-use Rattle.account.proofs.source.source_for.Reads as reads
-use Rattle.account.proofs.source.source_for.Lts as lts
-use Rattle.account.proofs.source.is_none.Reads as is-none-reads
-use Rattle.octets.proofs.stretch.put.Reads as put-reads
 
--- src/source.rt:24:8
 is-none-requires : tie.Need-is-none-requires
 is-none-requires c κs = search needs
 
--- src/source.rt:26:30
 slice-aggregate-put : tie.Need-slice-aggregate-put
 slice-aggregate-put c = search needs
 
--- src/source.rt:26:46
 sub-put : tie.Need-sub-put
 sub-put c = search needs
 
--- src/source.rt:26:46
 part-put-start : tie.Need-part-put-start
 part-put-start c = search needs
 
--- src/source.rt:26:46
 part-put-end : tie.Need-part-put-end
 part-put-end c = search needs
 
--- src/source.rt:26:9
 put-requires : tie.Need-put-requires
 put-requires c κs = search needs
 
--- src/source.rt:20:1
 returns : tie.Need-returns
 unfolding sourceFor if_then_else_
 returns c = rw (sym (c .before .before .before .before .before .is-none .ensures) ∙ c .before .before .before .before .if1 .taken, c .before .put .ensures) (patch-whole (replicate 22 0) (callbackOf (c .before .before .before .before .before .before .before .args .book .now)) (part-length 38 22 (c .before .before .before .before .before .before .before .args .book .now) (omega arith)))
 
--- src/source.rt:20:1
 returns-2 : tie.Need-returns-2
 unfolding sourceFor if_then_else_
 returns-2 c = rw (sym (c .before .is-none .ensures) ∙ c .if1 .left)

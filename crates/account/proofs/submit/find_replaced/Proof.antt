@@ -1,30 +1,23 @@
+-- `account::submit::find_replaced` meets its contract. Assumes nothing.
 use borrow.Author.Tests.{eq-eqb, ne-eqb}
 use Rattle.octets.specs.Choice.{if_then_else_}
 use borrow.Author.Needs.{needs}
 use Rattle.account.proofs.submit.find_replaced.Statement.{statement}
 use Rattle.account.proofs.submit.find_replaced.Tie as tie
-use Rattle.account.proofs.submit.find_replaced.Reads as reads
-use Rattle.account.proofs.submit.find_replaced.Lts as lts
-use Rattle.store.proofs.search.find_pair.Reads as find-pair-reads
 
--- src/submit.rt:100:40
 slice-aggregate-find-pair : tie.Need-slice-aggregate-find-pair
 slice-aggregate-find-pair c = search needs
 
--- src/submit.rt:100:56
 slice-aggregate-find-pair-2 : tie.Need-slice-aggregate-find-pair-2
 slice-aggregate-find-pair-2 c = search needs
 
--- src/submit.rt:100:9
 find-pair-requires : tie.Need-find-pair-requires
 find-pair-requires c κs = search needs
 
--- src/submit.rt:92:1
 returns : tie.Need-returns
 unfolding if_then_else_
 returns c = (rw (eq-eqb _ _ (c .before .before .before .if1 .taken)) (c .find-pair .ensures .0), c .find-pair .ensures .1)
 
--- src/submit.rt:92:1
 returns-2 : tie.Need-returns-2
 unfolding if_then_else_
 returns-2 c = (rw (ne-eqb _ _ (c .if1 .left)), tt)

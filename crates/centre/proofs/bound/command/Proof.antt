@@ -1,4 +1,5 @@
-use mathlib.Core.Path.{_≡_, refl, sym, ap, _∙_}
+-- `centre::bound::command` meets its contract. Assumes nothing.
+use mathlib.Core.Path.{ap}
 use borrow.Author.Tests.{ne-eqb, le-leb, lt-leb}
 use Rattle.octets.specs.Choice.{if_then_else_}
 use Rattle.octets.proofs.StretchLaws.{drop-cut}
@@ -8,193 +9,139 @@ use Rattle.centre.specs.Bound.{boundCommand, replying, unbindTurn}
 use borrow.Author.Needs.{needs}
 use Rattle.centre.proofs.bound.command.Statement.{statement}
 use Rattle.centre.proofs.bound.command.Tie as tie
-use Rattle.centre.proofs.bound.command.Reads as reads
-use Rattle.centre.proofs.bound.command.Lts as lts
-use Rattle.centre.proofs.bound.cancel_turn.Reads as cancel-turn-reads
-use Rattle.centre.proofs.bound.query_turn.Reads as query-turn-reads
-use Rattle.centre.proofs.bound.replace_turn.Reads as replace-turn-reads
-use Rattle.centre.proofs.bound.spoken.Reads as spoken-reads
-use Rattle.centre.proofs.bound.submit_turn.Reads as submit-turn-reads
-use Rattle.centre.proofs.bound.unbind_turn.Reads as unbind-turn-reads
-use Rattle.requests.proofs.plain.read_plain.Reads as read-plain-reads
-use Rattle.wire.proofs.frame.read_header.Reads as read-header-reads
-use Rattle.wire.proofs.reply.bare.Reads as bare-reads
-use Rattle.wire.proofs.reply.bind.Reads as bind-reads
 
--- src/bound.rt:195:9
 read-header-requires : tie.Need-read-header-requires
 read-header-requires c κs = search needs
 
--- src/bound.rt:199:16
 sub-body : tie.Need-sub-body
 sub-body c = search needs
 
--- src/bound.rt:199:16
 part-body-start : tie.Need-part-body-start
 part-body-start c = search needs
 
--- src/bound.rt:199:16
 part-body-end : tie.Need-part-body-end
 part-body-end c = search needs
 
--- src/bound.rt:201:24
 bind-requires : tie.Need-bind-requires
 bind-requires c κs = search needs
 
--- src/bound.rt:201:14
 spoken-requires : tie.Need-spoken-requires
 spoken-requires c κs = search needs
 
--- src/bound.rt:202:24
 bind-requires-2 : tie.Need-bind-requires-2
 bind-requires-2 c κs = search needs
 
--- src/bound.rt:202:14
 spoken-requires-2 : tie.Need-spoken-requires-2
 spoken-requires-2 c κs = search needs
 
--- src/bound.rt:203:14
 query-turn-requires : tie.Need-query-turn-requires
 query-turn-requires c κs = search needs
 
--- src/bound.rt:204:14
 submit-turn-requires : tie.Need-submit-turn-requires
 submit-turn-requires c κs = search needs
 
--- src/bound.rt:205:14
 unbind-turn-requires : tie.Need-unbind-turn-requires
 unbind-turn-requires c κs = search needs
 
--- src/bound.rt:206:14
 replace-turn-requires : tie.Need-replace-turn-requires
 replace-turn-requires c κs = search needs
 
--- src/bound.rt:207:14
 cancel-turn-requires : tie.Need-cancel-turn-requires
 cancel-turn-requires c κs = search needs
 
--- src/bound.rt:208:59
 read-plain-requires : tie.Need-read-plain-requires
 read-plain-requires c κs = search needs
 
--- src/bound.rt:208:27
 bare-requires : tie.Need-bare-requires
 bare-requires c κs = search needs
 
--- src/bound.rt:208:17
 spoken-requires-3 : tie.Need-spoken-requires-3
 spoken-requires-3 c κs = search needs
 
--- src/bound.rt:210:24
 bare-requires-2 : tie.Need-bare-requires-2
 bare-requires-2 c κs = search needs
 
--- src/bound.rt:210:14
 spoken-requires-4 : tie.Need-spoken-requires-4
 spoken-requires-4 c κs = search needs
 
--- src/bound.rt:209:38
 spoken-requires-5 : tie.Need-spoken-requires-5
 spoken-requires-5 c κs = search needs
 
--- src/bound.rt:183:1
 same-length : tie.Need-same-length
 same-length c = search needs
 
--- src/bound.rt:183:1
 returns : tie.Need-returns
 unfolding boundCommand replying if_then_else_
 returns c = rw (← (c .before .before .before .before .before .before .before .read-header .ensures), c .before .before .before .before .before .match .keys1, ← (c .before .before .before .bind .ensures), c .spoken .ensures)
 
--- src/bound.rt:183:1
 same-length-2 : tie.Need-same-length-2
 same-length-2 c = search needs
 
--- src/bound.rt:183:1
 returns-2 : tie.Need-returns-2
 unfolding boundCommand replying if_then_else_
 returns-2 c = rw (← (c .before .before .before .before .before .before .before .read-header .ensures), c .before .before .before .before .before .match .keys2, ← (c .before .before .before .bind2 .ensures), c .spoken2 .ensures)
 
--- src/bound.rt:183:1
 same-length-3 : tie.Need-same-length-3
 same-length-3 c = search needs
 
--- src/bound.rt:183:1
 same-length-4 : tie.Need-same-length-4
 same-length-4 c = search needs
 
--- src/bound.rt:183:1
 returns-3 : tie.Need-returns-3
 unfolding boundCommand if_then_else_
 returns-3 c = rw (← (c .before .before .before .before .before .before .before .read-header .ensures), c .before .before .before .before .before .match .keys3) (rw (drop-cut 16 (c .before .before .before .before .before .before .before .before .before .before .before .before .before .args .pdu .now)) at (c .before .before .query-turn .ensures))
 
--- src/bound.rt:183:1
 same-length-5 : tie.Need-same-length-5
 same-length-5 c = search needs
 
--- src/bound.rt:183:1
 same-length-6 : tie.Need-same-length-6
 same-length-6 c = search needs
 
--- src/bound.rt:183:1
 returns-4 : tie.Need-returns-4
 unfolding boundCommand if_then_else_
 returns-4 c = rw (← (c .before .before .before .before .before .before .before .before .before .read-header .ensures), c .before .before .before .before .before .before .before .match .keys4) (rw (drop-cut 16 (c .before .before .before .before .before .before .before .before .before .before .before .before .before .before .before .args .pdu .now)) at (c .before .before .before .before .submit-turn .ensures))
 
--- src/bound.rt:183:1
 same-length-7 : tie.Need-same-length-7
 same-length-7 c = search needs
 
--- src/bound.rt:183:1
 returns-5 : tie.Need-returns-5
 unfolding boundCommand replying unbindTurn if_then_else_
 returns-5 c = rw (← (c .before .before .before .before .before .before .read-header .ensures), c .before .before .before .before .match .keys5) (ap (λ (e : Effect Answer). record { answer = e .answer; part = c .before .before .before .before .before .before .before .before .before .before .before .before .args .part .now; last = e .last; ends = e .ends }) (rw (drop-cut 16 (c .before .before .before .before .before .before .before .before .before .before .before .before .args .pdu .now)) at (c .before .before .unbind-turn .ensures)))
 
--- src/bound.rt:183:1
 same-length-8 : tie.Need-same-length-8
 same-length-8 c = search needs
 
--- src/bound.rt:183:1
 same-length-9 : tie.Need-same-length-9
 same-length-9 c = search needs
 
--- src/bound.rt:183:1
 returns-6 : tie.Need-returns-6
 unfolding boundCommand if_then_else_
 returns-6 c = rw (← (c .before .before .before .before .before .before .before .before .before .read-header .ensures), c .before .before .before .before .before .before .before .match .keys6) (rw (drop-cut 16 (c .before .before .before .before .before .before .before .before .before .before .before .before .before .before .before .args .pdu .now)) at (c .before .before .before .before .replace-turn .ensures))
 
--- src/bound.rt:183:1
 same-length-10 : tie.Need-same-length-10
 same-length-10 c = search needs
 
--- src/bound.rt:183:1
 same-length-11 : tie.Need-same-length-11
 same-length-11 c = search needs
 
--- src/bound.rt:183:1
 returns-7 : tie.Need-returns-7
 unfolding boundCommand if_then_else_
 returns-7 c = rw (← (c .before .before .before .before .before .before .before .before .before .read-header .ensures), c .before .before .before .before .before .before .before .match .keys7) (rw (drop-cut 16 (c .before .before .before .before .before .before .before .before .before .before .before .before .before .before .before .args .pdu .now)) at (c .before .before .before .before .cancel-turn .ensures))
 
--- src/bound.rt:183:1
 same-length-12 : tie.Need-same-length-12
 same-length-12 c = search needs
 
--- src/bound.rt:183:1
 returns-8 : tie.Need-returns-8
 unfolding boundCommand replying if_then_else_
 returns-8 c = rw (← (c .before .before .before .before .before .before .before .before .read-header .ensures), c .before .before .before .before .before .before .match .keys8, ← (rw (drop-cut 16 (c .before .before .before .before .before .before .before .before .before .before .before .before .before .before .args .pdu .now)) at (c .before .before .before .before .read-plain .ensures)), ← (c .before .before .before .bare .ensures), c .spoken3 .ensures)
 
--- src/bound.rt:183:1
 same-length-13 : tie.Need-same-length-13
 same-length-13 c = search needs
 
--- src/bound.rt:183:1
 returns-9 : tie.Need-returns-9
 unfolding boundCommand replying if_then_else_
 returns-9 c = rw (← (c .before .before .before .before .before .before .before .before .read-header .ensures), ne-eqb _ _ (c .before .before .before .before .before .before .match .rest .0 .0 .0 .0 .0 .0 .0 .1), ne-eqb _ _ (c .before .before .before .before .before .before .match .rest .0 .0 .0 .0 .0 .0 .1), ne-eqb _ _ (c .before .before .before .before .before .before .match .rest .0 .0 .0 .0 .0 .1), ne-eqb _ _ (c .before .before .before .before .before .before .match .rest .0 .0 .0 .0 .1), ne-eqb _ _ (c .before .before .before .before .before .before .match .rest .0 .0 .0 .1), ne-eqb _ _ (c .before .before .before .before .before .before .match .rest .0 .0 .1), ne-eqb _ _ (c .before .before .before .before .before .before .match .rest .0 .1), ne-eqb _ _ (c .before .before .before .before .before .before .match .rest .1), lt-leb _ _ (c .before .before .before .before .before .if1 .taken), ← (c .before .before .before .bare2 .ensures), c .spoken4 .ensures)
 
--- src/bound.rt:183:1
 returns-10 : tie.Need-returns-10
 unfolding boundCommand replying if_then_else_
 returns-10 c = rw (← (c .before .before .before .before .read-header .ensures), ne-eqb _ _ (c .before .before .match .rest .0 .0 .0 .0 .0 .0 .0 .1), ne-eqb _ _ (c .before .before .match .rest .0 .0 .0 .0 .0 .0 .1), ne-eqb _ _ (c .before .before .match .rest .0 .0 .0 .0 .0 .1), ne-eqb _ _ (c .before .before .match .rest .0 .0 .0 .0 .1), ne-eqb _ _ (c .before .before .match .rest .0 .0 .0 .1), ne-eqb _ _ (c .before .before .match .rest .0 .0 .1), ne-eqb _ _ (c .before .before .match .rest .0 .1), ne-eqb _ _ (c .before .before .match .rest .1), le-leb _ _ (c .before .if1 .left), c .spoken5 .ensures)

@@ -1,67 +1,50 @@
+-- `centre::bound::framed` meets its contract. Assumes nothing.
 use lib.Seq.{length-take-le}
 use Rattle.wire.specs.Frame.{Framed}
-use mathlib.Core.Path.{_≡_, sym, _∙_, subst}
+use mathlib.Core.Path.{sym, _∙_, subst}
 use native.Mathlib.Omega.{arith}
 use Prim.Native.Nat.{_≤_}
 use lib.ListN.{length}
 use borrow.Author.Needs.{needs}
 use Rattle.centre.proofs.bound.framed.Statement.{statement}
 use Rattle.centre.proofs.bound.framed.Tie as tie
-use Rattle.centre.proofs.bound.framed.Reads as reads
-use Rattle.centre.proofs.bound.framed.Lts as lts
-use Rattle.centre.proofs.bound.command.Reads as command-reads
-use Rattle.wire.proofs.frame.frame_of.Reads as frame-of-reads
-use Rattle.wire.proofs.reply.bare.Reads as bare-reads
 
--- src/bound.rt:226:9
 frame-of-requires : tie.Need-frame-of-requires
 frame-of-requires c κs = search needs
 
--- src/bound.rt:228:24
 enum-told : tie.Need-enum-told
 enum-told c = search needs
 
--- src/bound.rt:236:39
 enum-told-2 : tie.Need-enum-told-2
 enum-told-2 c = search needs
 
--- src/bound.rt:236:17
 bare-requires : tie.Need-bare-requires
 bare-requires c κs = search needs
 
--- src/bound.rt:245:22
 enum-known-first : tie.Need-enum-known-first
 enum-known-first c = search needs
 
--- src/bound.rt:245:62
 slice-aggregate-command : tie.Need-slice-aggregate-command
 slice-aggregate-command c = let f : (16 ≤ c .before .before .first .given .0 .0) × (c .before .before .first .given .0 .0 ≤ length (c .before .before .before .before .before .before .before .before .before .before .args .octets .now)) = subst (Framed (c .before .before .before .before .before .before .before .before .before .before .args .octets .now)) (c .before .before .first .given .1) (c .before .before .before .before .frame-of .ensures .1) in sym (length-take-le (c .before .before .first .given .0 .0) (c .before .before .before .before .before .before .before .before .before .before .args .octets .now) (f .1))
 
--- src/bound.rt:245:28
 command-requires : tie.Need-command-requires
 command-requires c κs = let f : (16 ≤ c .before .before .before .before .first .given .0 .0) × (c .before .before .before .before .first .given .0 .0 ≤ length (c .before .before .before .before .before .before .before .before .before .before .before .before .args .octets .now)) = subst (Framed (c .before .before .before .before .before .before .before .before .before .before .before .before .args .octets .now)) (c .before .before .before .before .first .given .1) (c .before .before .before .before .before .before .frame-of .ensures .1) in let n = length-take-le (c .before .before .before .before .first .given .0 .0) (c .before .before .before .before .before .before .before .before .before .before .before .before .args .octets .now) (f .1) in (c .before .before .before .before .before .before .before .before .before .before .before .before .pre .0, (omega (arith, n, f .0), (c .before .before .before .before .before .before .before .before .before .before .before .before .pre .1)))
 
--- src/bound.rt:214:1
 returns : tie.Need-returns
 returns c = rw (sym (c .before .before .frame-of .ensures .0) ∙ c .enum-told .given .1)
 
--- src/bound.rt:214:1
 same-length : tie.Need-same-length
 same-length c = search needs
 
--- src/bound.rt:214:1
 returns-2 : tie.Need-returns-2
 returns-2 c = rw (sym (c .before .before .before .before .before .before .frame-of .ensures .0) ∙ c .before .before .before .before .enum-told2 .given .1, ← (c .before .before .bare .ensures))
 
--- src/bound.rt:214:1
 same-length-2 : tie.Need-same-length-2
 same-length-2 c = search needs
 
--- src/bound.rt:214:1
 same-length-3 : tie.Need-same-length-3
 same-length-3 c = search needs
 
--- src/bound.rt:214:1
 returns-3 : tie.Need-returns-3
 returns-3 c = rw (sym (c .before .before .before .before .before .before .before .before .before .before .before .frame-of .ensures .0) ∙ c .before .before .before .before .before .before .before .before .before .first .given .1) (c .before .before .before .before .command .ensures)
 

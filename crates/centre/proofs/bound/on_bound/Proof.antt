@@ -1,40 +1,30 @@
-use mathlib.Core.Path.{_≡_, sym, _∙_}
+-- `centre::bound::on_bound` meets its contract. Assumes nothing.
+use mathlib.Core.Path.{sym, _∙_}
 use Rattle.octets.specs.Choice.{if_then_else_}
 use Rattle.centre.specs.Bound.{onBound}
 use borrow.Author.Needs.{needs}
 use Rattle.centre.proofs.bound.on_bound.Statement.{statement}
 use Rattle.centre.proofs.bound.on_bound.Tie as tie
-use Rattle.centre.proofs.bound.on_bound.Reads as reads
-use Rattle.centre.proofs.bound.on_bound.Lts as lts
-use Rattle.centre.proofs.bound.framed.Reads as framed-reads
-use Rattle.store.proofs.account.is_account_ok.Reads as is-account-ok-reads
 
--- src/bound.rt:262:8
 is-account-ok-requires : tie.Need-is-account-ok-requires
 is-account-ok-requires c κs = search needs
 
--- src/bound.rt:263:9
 framed-requires : tie.Need-framed-requires
 framed-requires c κs = search needs
 
--- src/bound.rt:250:1
 same-length : tie.Need-same-length
 same-length c = search needs
 
--- src/bound.rt:250:1
 same-length-2 : tie.Need-same-length-2
 same-length-2 c = search needs
 
--- src/bound.rt:250:1
 returns : tie.Need-returns
 unfolding onBound if_then_else_
 returns c = rw (sym (c .before .before .before .before .before .before .before .before .is-account-ok .ensures) ∙ c .before .before .before .before .before .before .before .if1 .taken) (c .before .before .before .before .framed .ensures)
 
--- src/bound.rt:250:1
 same-length-3 : tie.Need-same-length-3
 same-length-3 c = search needs
 
--- src/bound.rt:250:1
 returns-2 : tie.Need-returns-2
 unfolding onBound if_then_else_
 returns-2 c = rw (sym (c .before .is-account-ok .ensures) ∙ c .if1 .left)

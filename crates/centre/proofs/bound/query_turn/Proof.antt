@@ -1,4 +1,5 @@
-use mathlib.Core.Path.{_≡_, sym, _∙_, subst}
+-- `centre::bound::query_turn` meets its contract. Assumes nothing.
+use mathlib.Core.Path.{subst}
 use Prim.Native.Nat.{_<_}
 use native.Mathlib.Omega.{arith}
 use borrow.Author.Tests.{not-true, not-false}
@@ -8,72 +9,51 @@ use Rattle.centre.specs.Bound.{queryTurn, replying}
 use borrow.Author.Needs.{needs}
 use Rattle.centre.proofs.bound.query_turn.Statement.{statement}
 use Rattle.centre.proofs.bound.query_turn.Tie as tie
-use Rattle.centre.proofs.bound.query_turn.Reads as reads
-use Rattle.centre.proofs.bound.query_turn.Lts as lts
-use Rattle.account.proofs.query.query.Reads as query-reads
-use Rattle.centre.proofs.bound.spoken.Reads as spoken-reads
-use Rattle.centre.proofs.bound.write_found.Reads as write-found-reads
-use Rattle.centre.proofs.bound.write_no_query.Reads as write-no-query-reads
 
--- src/bound.rt:109:13
 write-no-query-requires : tie.Need-write-no-query-requires
 write-no-query-requires c κs = search needs
 
--- src/bound.rt:110:9
 spoken-requires : tie.Need-spoken-requires
 spoken-requires c κs = search needs
 
--- src/bound.rt:110:9
 same-length : tie.Need-same-length
 same-length c = search needs
 
--- src/bound.rt:110:9
 returns : tie.Need-returns
 unfolding queryTurn replying if_then_else_
 returns c = rw (not-true (c .before .before .before .before .before .before .before .before .before .before .args .transmitter) (c .before .before .before .before .before .if1 .taken), ← (c .before .before .before .write-no-query .ensures), c .spoken .ensures)
 
--- src/bound.rt:112:9
 query-requires : tie.Need-query-requires
 query-requires c κs = search needs
 
--- src/bound.rt:114:19
 enum-known-place : tie.Need-enum-known-place
 enum-known-place c = search needs
 
--- src/bound.rt:115:62
 enum-told : tie.Need-enum-told
 enum-told c = search needs
 
--- src/bound.rt:115:13
 write-no-query-requires-2 : tie.Need-write-no-query-requires-2
 write-no-query-requires-2 c κs = search needs
 
--- src/bound.rt:116:9
 spoken-requires-2 : tie.Need-spoken-requires-2
 spoken-requires-2 c κs = search needs
 
--- src/bound.rt:116:9
 same-length-2 : tie.Need-same-length-2
 same-length-2 c = search needs
 
--- src/bound.rt:116:9
 returns-2 : tie.Need-returns-2
 unfolding queryTurn replying if_then_else_
 returns-2 c = rw (not-false (c .before .before .before .before .before .before .before .before .before .before .before .before .before .args .transmitter) (c .before .before .before .before .before .before .before .before .if1 .left), ← (c .before .before .before .before .before .before .before .query .ensures .0), c .before .before .before .before .before .enum-told .given .1, ← (c .before .before .before .write-no-query2 .ensures), c .spoken2 .ensures)
 
--- src/bound.rt:118:9
 write-found-requires : tie.Need-write-found-requires
 write-found-requires c κs = let b : c .before .before .place .given .0 .0 < 16 = subst OnePlace (c .before .before .place .given .1) (c .before .before .before .before .query .ensures .1) in omega arith
 
--- src/bound.rt:119:5
 spoken-requires-3 : tie.Need-spoken-requires-3
 spoken-requires-3 c κs = search needs
 
--- src/bound.rt:95:1
 same-length-3 : tie.Need-same-length-3
 same-length-3 c = search needs
 
--- src/bound.rt:95:1
 returns-3 : tie.Need-returns-3
 unfolding queryTurn replying if_then_else_
 returns-3 c = rw (not-false (c .before .before .before .before .before .before .before .before .before .before .before .before .before .before .args .transmitter) (c .before .before .before .before .before .before .before .before .before .if1 .left), ← (c .before .before .before .before .before .before .before .before .query .ensures .0), c .before .before .before .before .before .before .place .given .1, ← (c .before .before .before .write-found .ensures), c .spoken3 .ensures)

@@ -1,54 +1,39 @@
-use mathlib.Core.Path.{_≡_, sym, _∙_}
+-- `centre::bound::submit_turn` meets its contract. Assumes nothing.
 use borrow.Author.Tests.{not-true, not-false}
 use Rattle.octets.specs.Choice.{if_then_else_}
 use Rattle.centre.specs.Bound.{submitTurn, replying}
 use borrow.Author.Needs.{needs}
 use Rattle.centre.proofs.bound.submit_turn.Statement.{statement}
 use Rattle.centre.proofs.bound.submit_turn.Tie as tie
-use Rattle.centre.proofs.bound.submit_turn.Reads as reads
-use Rattle.centre.proofs.bound.submit_turn.Lts as lts
-use Rattle.account.proofs.submit.submit.Reads as submit-submit-reads
-use Rattle.centre.proofs.bound.spoken.Reads as spoken-reads
-use Rattle.wire.proofs.reply.submit.Reads as reply-submit-reads
 
--- src/bound.rt:56:13
 submit-requires : tie.Need-submit-requires
 submit-requires c κs = search needs
 
--- src/bound.rt:57:9
 spoken-requires : tie.Need-spoken-requires
 spoken-requires c κs = search needs
 
--- src/bound.rt:57:9
 same-length : tie.Need-same-length
 same-length c = search needs
 
--- src/bound.rt:57:9
 returns : tie.Need-returns
 unfolding submitTurn replying if_then_else_
 returns c = rw (not-true (c .before .before .before .before .before .before .before .before .before .before .args .transmitter) (c .before .before .before .before .before .if1 .taken), ← (c .before .before .before .submit .ensures), c .spoken .ensures)
 
--- src/bound.rt:59:9
 submit-requires-2 : tie.Need-submit-requires-2
 submit-requires-2 c κs = search needs
 
--- src/bound.rt:61:9
 submit-requires-3 : tie.Need-submit-requires-3
 submit-requires-3 c κs = search needs
 
--- src/bound.rt:62:5
 spoken-requires-2 : tie.Need-spoken-requires-2
 spoken-requires-2 c κs = search needs
 
--- src/bound.rt:42:1
 same-length-2 : tie.Need-same-length-2
 same-length-2 c = search needs
 
--- src/bound.rt:42:1
 same-length-3 : tie.Need-same-length-3
 same-length-3 c = search needs
 
--- src/bound.rt:42:1
 returns-2 : tie.Need-returns-2
 unfolding submitTurn replying if_then_else_
 returns-2 c = rw (not-false (c .before .before .before .before .before .before .before .before .before .before .before .before .before .before .args .transmitter) (c .before .before .before .before .before .before .before .before .before .if1 .left), ← (c .before .before .before .before .before .before .before .submit2 .ensures), ← (c .before .before .before .submit3 .ensures), c .spoken2 .ensures)

@@ -1,4 +1,5 @@
-use mathlib.Core.Path.{_≡_, sym, _∙_, subst}
+-- `centre::open::bind_to` meets its contract. Assumes nothing.
+use mathlib.Core.Path.{sym, _∙_, subst}
 use Prim.Native.Nat.{_<_}
 use native.Mathlib.Omega.{arith}
 use borrow.Author.Tests.{eq-eqb, ne-eqb}
@@ -8,88 +9,61 @@ use Rattle.centre.specs.Open.{bindTo}
 use borrow.Author.Needs.{needs}
 use Rattle.centre.proofs.open.bind_to.Statement.{statement}
 use Rattle.centre.proofs.open.bind_to.Tie as tie
-use Rattle.centre.proofs.open.bind_to.Reads as reads
-use Rattle.centre.proofs.open.bind_to.Lts as lts
-use Rattle.centre.proofs.open.leg_of.Reads as leg-of-reads
-use Rattle.centre.proofs.open.not_bound.Reads as not-bound-reads
-use Rattle.requests.proofs.bind.read_bind.Reads as read-bind-reads
-use Rattle.store.proofs.book.is_password.Reads as is-password-reads
-use Rattle.store.proofs.book.record_of.Reads as record-of-reads
-use Rattle.store.proofs.search.find_named.Reads as find-named-reads
-use Rattle.wire.proofs.fields.octets_of.Reads as octets-of-reads
 
--- src/open.rt:55:9
 read-bind-requires : tie.Need-read-bind-requires
 read-bind-requires c κs = search needs
 
--- src/open.rt:58:9
 not-bound-requires : tie.Need-not-bound-requires
 not-bound-requires c κs = search needs
 
--- src/open.rt:58:9
 returns : tie.Need-returns
 unfolding bindTo if_then_else_
 returns c = rw (← (c .before .before .read-bind .ensures .0), ne-eqb _ _ (c .before .if1 .taken)) (c .not-bound .ensures)
 
--- src/open.rt:64:49
 octets-of-requires : tie.Need-octets-of-requires
 octets-of-requires c κs = search needs
 
--- src/open.rt:64:82
 octets-of-requires-2 : tie.Need-octets-of-requires-2
 octets-of-requires-2 c κs = search needs
 
--- src/open.rt:64:9
 find-named-requires : tie.Need-find-named-requires
 find-named-requires c κs = search needs
 
--- src/open.rt:65:19
 enum-known-found : tie.Need-enum-known-found
 enum-known-found c = search needs
 
--- src/open.rt:66:9
 enum-told : tie.Need-enum-told
 enum-told c = search needs
 
--- src/open.rt:66:9
 not-bound-requires-2 : tie.Need-not-bound-requires-2
 not-bound-requires-2 c κs = search needs
 
--- src/open.rt:66:9
 returns-2 : tie.Need-returns-2
 unfolding bindTo if_then_else_
 returns-2 c = rw (← (c .before .before .before .before .before .before .before .before .before .before .before .read-bind .ensures .0), eq-eqb _ _ (c .before .before .before .before .before .before .before .before .before .before .if1 .left), ← (c .before .before .before .before .before .octets-of .ensures), ← (c .before .before .before .before .octets-of2 .ensures), sym (c .before .before .before .find-named .ensures .0) ∙ c .before .enum-told .given .1) (c .not-bound2 .ensures)
 
--- src/open.rt:68:9
 record-of-requires : tie.Need-record-of-requires
 record-of-requires c κs = let b : c .before .found .given .0 .0 < 8 = subst (Below 8) (c .before .found .given .1) (c .before .before .before .find-named .ensures .1) in omega arith
 
--- src/open.rt:69:41
 octets-of-requires-3 : tie.Need-octets-of-requires-3
 octets-of-requires-3 c κs = search needs
 
--- src/open.rt:69:8
 is-password-requires : tie.Need-is-password-requires
 is-password-requires c κs = search needs
 
--- src/open.rt:72:37
 cast-leg-of : tie.Need-cast-leg-of
 cast-leg-of c = let b : c .before .before .before .before .before .found .given .0 .0 < 8 = subst (Below 8) (c .before .before .before .before .before .found .given .1) (c .before .before .before .before .before .before .before .find-named .ensures .1) in omega arith
 
--- src/open.rt:72:20
 leg-of-requires : tie.Need-leg-of-requires
 leg-of-requires c κs = search needs
 
--- src/open.rt:75:9
 not-bound-requires-3 : tie.Need-not-bound-requires-3
 not-bound-requires-3 c κs = search needs
 
--- src/open.rt:51:1
 returns-3 : tie.Need-returns-3
 unfolding bindTo if_then_else_
 returns-3 c = rw (← (c .before .before .before .before .before .before .before .before .before .before .before .before .before .before .before .before .read-bind .ensures .0), eq-eqb _ _ (c .before .before .before .before .before .before .before .before .before .before .before .before .before .before .before .if1 .left), ← (c .before .before .before .before .before .before .before .before .before .before .octets-of .ensures), ← (c .before .before .before .before .before .before .before .before .before .octets-of2 .ensures), sym (c .before .before .before .before .before .before .before .before .find-named .ensures .0) ∙ c .before .before .before .before .before .before .found .given .1, ← (c .before .before .before .octets-of3 .ensures), ← (c .before .before .before .before .record-of .ensures .0), sym (c .before .before .is-password .ensures) ∙ c .before .if2 .taken, c .leg-of .ensures)
 
--- src/open.rt:51:1
 returns-4 : tie.Need-returns-4
 unfolding bindTo if_then_else_
 returns-4 c = rw (← (c .before .before .before .before .before .before .before .before .before .before .before .before .before .before .before .before .read-bind .ensures .0), eq-eqb _ _ (c .before .before .before .before .before .before .before .before .before .before .before .before .before .before .before .if1 .left), ← (c .before .before .before .before .before .before .before .before .before .before .octets-of .ensures), ← (c .before .before .before .before .before .before .before .before .before .octets-of2 .ensures), sym (c .before .before .before .before .before .before .before .before .find-named .ensures .0) ∙ c .before .before .before .before .before .before .found .given .1, ← (c .before .before .before .octets-of3 .ensures), ← (c .before .before .before .before .record-of .ensures .0), sym (c .before .before .is-password .ensures) ∙ c .before .if2 .left) (c .not-bound3 .ensures)

@@ -1,176 +1,131 @@
+-- `centre::open::open_command` meets its contract. Assumes nothing.
 use borrow.Author.Tests.{ne-eqb, le-leb, lt-leb}
 use Rattle.octets.specs.Choice.{if_then_else_}
 use Rattle.centre.specs.Open.{openCommand}
 use borrow.Author.Needs.{needs}
 use Rattle.centre.proofs.open.open_command.Statement.{statement}
 use Rattle.centre.proofs.open.open_command.Tie as tie
-use Rattle.centre.proofs.open.open_command.Reads as reads
-use Rattle.centre.proofs.open.open_command.Lts as lts
-use Rattle.centre.proofs.open.open_bind.Reads as open-bind-reads
-use Rattle.centre.proofs.open.stay.Reads as stay-reads
-use Rattle.requests.proofs.plain.read_plain.Reads as read-plain-reads
-use Rattle.wire.proofs.reply.bare.Reads as bare-reads
-use Rattle.wire.proofs.reply.query.Reads as query-reads
-use Rattle.wire.proofs.reply.submit.Reads as submit-reads
 
--- src/open.rt:110:14
 open-bind-requires : tie.Need-open-bind-requires
 open-bind-requires c κs = search needs
 
--- src/open.rt:111:14
 open-bind-requires-2 : tie.Need-open-bind-requires-2
 open-bind-requires-2 c κs = search needs
 
--- src/open.rt:112:106
 slice-aggregate-query : tie.Need-slice-aggregate-query
 slice-aggregate-query c = search needs
 
--- src/open.rt:112:29
 query-requires : tie.Need-query-requires
 query-requires c κs = search needs
 
--- src/open.rt:112:14
 stay-requires : tie.Need-stay-requires
 stay-requires c κs = search needs
 
--- src/open.rt:113:29
 submit-requires : tie.Need-submit-requires
 submit-requires c κs = search needs
 
--- src/open.rt:113:14
 stay-requires-2 : tie.Need-stay-requires-2
 stay-requires-2 c κs = search needs
 
--- src/open.rt:114:29
 bare-requires : tie.Need-bare-requires
 bare-requires c κs = search needs
 
--- src/open.rt:114:14
 stay-requires-3 : tie.Need-stay-requires-3
 stay-requires-3 c κs = search needs
 
--- src/open.rt:115:29
 bare-requires-2 : tie.Need-bare-requires-2
 bare-requires-2 c κs = search needs
 
--- src/open.rt:115:14
 stay-requires-4 : tie.Need-stay-requires-4
 stay-requires-4 c κs = search needs
 
--- src/open.rt:116:29
 bare-requires-3 : tie.Need-bare-requires-3
 bare-requires-3 c κs = search needs
 
--- src/open.rt:116:14
 stay-requires-5 : tie.Need-stay-requires-5
 stay-requires-5 c κs = search needs
 
--- src/open.rt:117:64
 read-plain-requires : tie.Need-read-plain-requires
 read-plain-requires c κs = search needs
 
--- src/open.rt:117:32
 bare-requires-4 : tie.Need-bare-requires-4
 bare-requires-4 c κs = search needs
 
--- src/open.rt:117:17
 stay-requires-6 : tie.Need-stay-requires-6
 stay-requires-6 c κs = search needs
 
--- src/open.rt:119:29
 bare-requires-5 : tie.Need-bare-requires-5
 bare-requires-5 c κs = search needs
 
--- src/open.rt:119:14
 stay-requires-7 : tie.Need-stay-requires-7
 stay-requires-7 c κs = search needs
 
--- src/open.rt:118:38
 stay-requires-8 : tie.Need-stay-requires-8
 stay-requires-8 c κs = search needs
 
--- src/open.rt:105:1
 same-length : tie.Need-same-length
 same-length c = search needs
 
--- src/open.rt:105:1
 returns : tie.Need-returns
 unfolding openCommand if_then_else_
 returns c = rw (c .before .before .before .before .match .keys1) (c .before .before .open-bind .ensures)
 
--- src/open.rt:105:1
 same-length-2 : tie.Need-same-length-2
 same-length-2 c = search needs
 
--- src/open.rt:105:1
 returns-2 : tie.Need-returns-2
 unfolding openCommand if_then_else_
 returns-2 c = rw (c .before .before .before .before .match .keys2) (c .before .before .open-bind2 .ensures)
 
--- src/open.rt:105:1
 same-length-3 : tie.Need-same-length-3
 same-length-3 c = search needs
 
--- src/open.rt:105:1
 returns-3 : tie.Need-returns-3
 unfolding openCommand if_then_else_
 returns-3 c = rw (c .before .before .before .before .before .before .match .keys3, ← (c .before .before .before .query .ensures), c .stay .ensures)
 
--- src/open.rt:105:1
 same-length-4 : tie.Need-same-length-4
 same-length-4 c = search needs
 
--- src/open.rt:105:1
 returns-4 : tie.Need-returns-4
 unfolding openCommand if_then_else_
 returns-4 c = rw (c .before .before .before .before .before .match .keys4, ← (c .before .before .before .submit .ensures), c .stay2 .ensures)
 
--- src/open.rt:105:1
 same-length-5 : tie.Need-same-length-5
 same-length-5 c = search needs
 
--- src/open.rt:105:1
 returns-5 : tie.Need-returns-5
 unfolding openCommand if_then_else_
 returns-5 c = rw (c .before .before .before .before .before .match .keys5, ← (c .before .before .before .bare .ensures), c .stay3 .ensures)
 
--- src/open.rt:105:1
 same-length-6 : tie.Need-same-length-6
 same-length-6 c = search needs
 
--- src/open.rt:105:1
 returns-6 : tie.Need-returns-6
 unfolding openCommand if_then_else_
 returns-6 c = rw (c .before .before .before .before .before .match .keys6, ← (c .before .before .before .bare2 .ensures), c .stay4 .ensures)
 
--- src/open.rt:105:1
 same-length-7 : tie.Need-same-length-7
 same-length-7 c = search needs
 
--- src/open.rt:105:1
 returns-7 : tie.Need-returns-7
 unfolding openCommand if_then_else_
 returns-7 c = rw (c .before .before .before .before .before .match .keys7, ← (c .before .before .before .bare3 .ensures), c .stay5 .ensures)
 
--- src/open.rt:105:1
 same-length-8 : tie.Need-same-length-8
 same-length-8 c = search needs
 
--- src/open.rt:105:1
 returns-8 : tie.Need-returns-8
 unfolding openCommand if_then_else_
 returns-8 c = rw (c .before .before .before .before .before .before .match .keys8, ← (c .before .before .before .before .read-plain .ensures), ← (c .before .before .before .bare4 .ensures), c .stay6 .ensures)
 
--- src/open.rt:105:1
 same-length-9 : tie.Need-same-length-9
 same-length-9 c = search needs
 
--- src/open.rt:105:1
 returns-9 : tie.Need-returns-9
 unfolding openCommand if_then_else_
 returns-9 c = rw (ne-eqb _ _ (c .before .before .before .before .before .before .match .rest .0 .0 .0 .0 .0 .0 .0 .1), ne-eqb _ _ (c .before .before .before .before .before .before .match .rest .0 .0 .0 .0 .0 .0 .1), ne-eqb _ _ (c .before .before .before .before .before .before .match .rest .0 .0 .0 .0 .0 .1), ne-eqb _ _ (c .before .before .before .before .before .before .match .rest .0 .0 .0 .0 .1), ne-eqb _ _ (c .before .before .before .before .before .before .match .rest .0 .0 .0 .1), ne-eqb _ _ (c .before .before .before .before .before .before .match .rest .0 .0 .1), ne-eqb _ _ (c .before .before .before .before .before .before .match .rest .0 .1), ne-eqb _ _ (c .before .before .before .before .before .before .match .rest .1), lt-leb _ _ (c .before .before .before .before .before .if1 .taken), ← (c .before .before .before .bare5 .ensures), c .stay7 .ensures)
 
--- src/open.rt:105:1
 returns-10 : tie.Need-returns-10
 unfolding openCommand if_then_else_
 returns-10 c = rw (ne-eqb _ _ (c .before .before .match .rest .0 .0 .0 .0 .0 .0 .0 .1), ne-eqb _ _ (c .before .before .match .rest .0 .0 .0 .0 .0 .0 .1), ne-eqb _ _ (c .before .before .match .rest .0 .0 .0 .0 .0 .1), ne-eqb _ _ (c .before .before .match .rest .0 .0 .0 .0 .1), ne-eqb _ _ (c .before .before .match .rest .0 .0 .0 .1), ne-eqb _ _ (c .before .before .match .rest .0 .0 .1), ne-eqb _ _ (c .before .before .match .rest .0 .1), ne-eqb _ _ (c .before .before .match .rest .1), le-leb _ _ (c .before .if1 .left), c .stay8 .ensures)

@@ -1,37 +1,27 @@
+-- `centre::open::open_pdu` meets its contract. Assumes nothing.
 use Rattle.octets.proofs.StretchLaws.{drop-cut}
 use borrow.Author.Needs.{needs}
 use Rattle.centre.proofs.open.open_pdu.Statement.{statement}
 use Rattle.centre.proofs.open.open_pdu.Tie as tie
-use Rattle.centre.proofs.open.open_pdu.Reads as reads
-use Rattle.centre.proofs.open.open_pdu.Lts as lts
-use Rattle.centre.proofs.open.open_command.Reads as open-command-reads
-use Rattle.wire.proofs.frame.read_header.Reads as read-header-reads
 
--- src/open.rt:127:9
 read-header-requires : tie.Need-read-header-requires
 read-header-requires c κs = search needs
 
--- src/open.rt:129:67
 sub-open-command : tie.Need-sub-open-command
 sub-open-command c = search needs
 
--- src/open.rt:129:67
 part-open-command-start : tie.Need-part-open-command-start
 part-open-command-start c = search needs
 
--- src/open.rt:129:67
 part-open-command-end : tie.Need-part-open-command-end
 part-open-command-end c = search needs
 
--- src/open.rt:129:5
 open-command-requires : tie.Need-open-command-requires
 open-command-requires c κs = search needs
 
--- src/open.rt:123:1
 same-length : tie.Need-same-length
 same-length c = search needs
 
--- src/open.rt:123:1
 returns : tie.Need-returns
 returns c = rw (← (c .before .before .before .before .before .read-header .ensures)) (rw (drop-cut 16 (c .before .before .before .before .before .before .before .before .before .args .pdu .now)) at (c .before .before .open-command .ensures))
 

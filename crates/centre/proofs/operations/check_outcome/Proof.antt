@@ -1,3 +1,4 @@
+-- `centre::operations::check_outcome` meets its contract. Assumes nothing.
 use mathlib.Core.Path.{sym, _∙_}
 use native.Mathlib.Omega.{arith}
 use mathlib.Core.Bool.{not}
@@ -10,25 +11,18 @@ use Rattle.centre.specs.Centre.{outcomeEarly}
 use borrow.Author.Needs.{needs}
 use Rattle.centre.proofs.operations.check_outcome.Statement.{statement}
 use Rattle.centre.proofs.operations.check_outcome.Tie as tie
-use Rattle.centre.proofs.operations.check_outcome.Reads as reads
-use Rattle.centre.proofs.operations.check_outcome.Lts as lts
-use Rattle.forms.proofs.time.is_sent_time.Reads as is-sent-time-reads
 
--- src/operations.rt:20:9
 returns : tie.Need-returns
 unfolding outcomeEarly if_then_else_
 returns c = (rw (c .if1 .taken), λ e. absurd (omega arith))
 
--- src/operations.rt:22:9
 is-sent-time-requires : tie.Need-is-sent-time-requires
 is-sent-time-requires c κs = search needs
 
--- src/operations.rt:23:9
 returns-2 : tie.Need-returns-2
 unfolding outcomeEarly if_then_else_
 returns-2 c = (rw (c .before .before .if1 .left, sym (c .before .is-sent-time .ensures) ∙ not-true _ (c .if2 .taken)), λ e. absurd (omega arith))
 
--- src/operations.rt:16:1
 returns-3 : tie.Need-returns-3
 unfolding outcomeEarly if_then_else_
 returns-3 c = (

@@ -1,3 +1,4 @@
+-- `centre::operations::check_pick` meets its contract. Assumes nothing.
 use native.Mathlib.Omega.{arith}
 use mathlib.Core.Bool.{not}
 use lib.Dec.{eqb}
@@ -5,18 +6,13 @@ use borrow.Author.Tests.{eqb-true, not-false}
 use Rattle.octets.specs.Choice.{if_then_else_}
 use Rattle.octets.proofs.StretchLaws.{or-left, or-right}
 use Rattle.centre.specs.Centre.{pickEarly}
-use borrow.Author.Needs.{needs}
 use Rattle.centre.proofs.operations.check_pick.Statement.{statement}
 use Rattle.centre.proofs.operations.check_pick.Tie as tie
-use Rattle.centre.proofs.operations.check_pick.Reads as reads
-use Rattle.centre.proofs.operations.check_pick.Lts as lts
 
--- src/operations.rt:99:1
 returns : tie.Need-returns
 unfolding pickEarly if_then_else_
 returns c = (rw (c .if1 .taken), λ e. absurd (omega arith))
 
--- src/operations.rt:99:1
 returns-2 : tie.Need-returns-2
 unfolding pickEarly if_then_else_
 returns-2 c = (

@@ -1,5 +1,6 @@
-use mathlib.Core.Path.{_≡_, sym, ap, _∙_, subst}
-use Prim.Native.Nat.{ℕ, _+_, _*_, _<_}
+-- `centre::operations::locate` meets its contract. Assumes nothing.
+use mathlib.Core.Path.{sym, ap, subst}
+use Prim.Native.Nat.{_*_, _<_}
 use native.Mathlib.Omega.{arith}
 use native.Mathlib.Nat.{add-sub-cancel-left}
 use borrow.Author.Tests.{eq-eqb, ne-eqb, lt-ltb, le-ltb}
@@ -9,86 +10,62 @@ use Rattle.isolation.specs.Platform.{step}
 use Rattle.centre.specs.Answer.{picked}
 use Rattle.centre.specs.Centre.{act}
 use Rattle.centre.specs.Pick.{PlacedInside}
-use mathlib.Core.List.{List}
 use borrow.Author.Needs.{needs}
 use Rattle.centre.proofs.operations.locate.Statement.{statement}
 use Rattle.centre.proofs.operations.locate.Tie as tie
-use Rattle.centre.proofs.operations.locate.Reads as reads
-use Rattle.centre.proofs.operations.locate.Lts as lts
-use Rattle.centre.proofs.operations.check_pick.Reads as check-pick-reads
-use Rattle.centre.proofs.operations.on_pick.Reads as on-pick-reads
-use Rattle.session.proofs.State.last.Reads as last-reads
-use Rattle.store.proofs.book.record_of.Reads as record-of-reads
 
--- src/operations.rt:112:9
 check-pick-requires : tie.Need-check-pick-requires
 check-pick-requires c κs = search needs
 
--- src/operations.rt:114:9
 returns : tie.Need-returns
 unfolding step if_then_else_
 returns c = (rw (← (c .before .check-pick .ensures .0), ne-eqb _ _ (c .if1 .taken)), tt)
 
--- src/operations.rt:117:9
 returns-2 : tie.Need-returns-2
 unfolding step if_then_else_
 returns-2 c = (rw (← (c .before .before .check-pick .ensures .0), eq-eqb _ _ (c .before .if1 .left), le-ltb _ _ (c .if2 .taken)), tt)
 
--- src/operations.rt:119:9
 record-of-requires : tie.Need-record-of-requires
 record-of-requires c κs = let f = c .before .before .check-pick .ensures .1 (c .before .if1 .left) in (f .bookFits, c .if2 .left)
 
--- src/operations.rt:120:9
 last-requires : tie.Need-last-requires
 last-requires c κs = search needs
 
--- src/operations.rt:121:14
 mul-at : tie.Need-mul-at
 mul-at c = search needs
 
--- src/operations.rt:122:45
 add-on-pick : tie.Need-add-on-pick
 add-on-pick c = search needs
 
--- src/operations.rt:122:34
 sub-on-pick : tie.Need-sub-on-pick
 sub-on-pick c = search needs
 
--- src/operations.rt:122:34
 part-on-pick-start : tie.Need-part-on-pick-start
 part-on-pick-start c = search needs
 
--- src/operations.rt:122:34
 part-on-pick-end : tie.Need-part-on-pick-end
 part-on-pick-end c = let f = c .before .before .before .before .check-pick .ensures .1 (c .before .before .before .if1 .left) in omega (arith, f .tableFits, c .before .before .if2 .left)
 
--- src/operations.rt:122:9
 on-pick-requires : tie.Need-on-pick-requires
 on-pick-requires c κs = search needs
 
--- src/operations.rt:124:25
 enum-known-placed : tie.Need-enum-known-placed
 enum-known-placed c = search needs
 
--- src/operations.rt:125:23
 enum-known-placed-2 : tie.Need-enum-known-placed-2
 enum-known-placed-2 c = search needs
 
--- src/operations.rt:125:46
 mul-t19 : tie.Need-mul-t19
 mul-t19 c = let b : c .before .placed2 .given .0 .0 < 16 = subst PlacedInside (c .before .placed2 .given .1) (c .before .before .before .on-pick .ensures .1) in omega arith
 
--- src/operations.rt:125:41
 add-t20 : tie.Need-add-t20
 add-t20 c = let b : c .before .placed2 .given .0 .0 < 16 = subst PlacedInside (c .before .placed2 .given .1) (c .before .before .before .on-pick .ensures .1) in omega (arith, c .before .before .before .before .before .before .before .if2 .left)
 
--- src/operations.rt:109:1
 returns-3 : tie.Need-returns-3
 unfolding step act if_then_else_
 returns-3 c = let e = rw (add-sub-cancel-left (4096 * c .before .before .before .before .before .before .before .before .before .before .before .before .args .account) 4096) at (c .before .before .before .on-pick .ensures .0) in
     (rw (← (c .before .before .before .before .before .before .before .before .before .check-pick .ensures .0), eq-eqb _ _ (c .before .before .before .before .before .before .before .before .if1 .left), lt-ltb _ _ (c .before .before .before .before .before .before .before .if2 .left), ← (c .before .before .before .before .before .before .record-of .ensures .0), ← (c .before .before .before .before .before .last .ensures), ← e, c .before .placed .given .1), tt)
 
--- src/operations.rt:109:1
 returns-4 : tie.Need-returns-4
 unfolding step act if_then_else_
 returns-4 c = let f = c .before .before .before .before .before .before .before .before .before .check-pick .ensures .1 (c .before .before .before .before .before .before .before .before .if1 .left) in

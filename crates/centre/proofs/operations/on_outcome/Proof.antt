@@ -1,3 +1,4 @@
+-- `centre::operations::on_outcome` meets its contract. Assumes nothing.
 use mathlib.Core.Path.{sym, _∙_}
 use borrow.Author.Tests.{not-true, not-false}
 use Rattle.octets.specs.Choice.{if_then_else_}
@@ -5,43 +6,30 @@ use Rattle.centre.specs.Bound.{onOutcome}
 use borrow.Author.Needs.{needs}
 use Rattle.centre.proofs.operations.on_outcome.Statement.{statement}
 use Rattle.centre.proofs.operations.on_outcome.Tie as tie
-use Rattle.centre.proofs.operations.on_outcome.Reads as reads
-use Rattle.centre.proofs.operations.on_outcome.Lts as lts
-use Rattle.account.proofs.outcome.report.Reads as report-reads
-use Rattle.centre.proofs.operations.is_outcome.Reads as is-outcome-reads
-use Rattle.store.proofs.account.is_account_ok.Reads as is-account-ok-reads
 
--- src/operations.rt:38:9
 is-outcome-requires : tie.Need-is-outcome-requires
 is-outcome-requires c κs = search needs
 
--- src/operations.rt:39:9
 returns : tie.Need-returns
 unfolding onOutcome if_then_else_
 returns c = rw (sym (c .before .is-outcome .ensures) ∙ not-true _ (c .if1 .taken))
 
--- src/operations.rt:41:9
 is-account-ok-requires : tie.Need-is-account-ok-requires
 is-account-ok-requires c κs = search needs
 
--- src/operations.rt:42:9
 same-length : tie.Need-same-length
 same-length c = search needs
 
--- src/operations.rt:42:9
 returns-2 : tie.Need-returns-2
 unfolding onOutcome if_then_else_
 returns-2 c = rw (sym (c .before .before .before .before .is-outcome .ensures) ∙ not-false _ (c .before .before .before .if1 .left), sym (c .before .is-account-ok .ensures) ∙ not-true _ (c .if2 .taken))
 
--- src/operations.rt:44:5
 report-requires : tie.Need-report-requires
 report-requires c κs = search needs
 
--- src/operations.rt:34:1
 same-length-2 : tie.Need-same-length-2
 same-length-2 c = search needs
 
--- src/operations.rt:34:1
 returns-3 : tie.Need-returns-3
 unfolding onOutcome if_then_else_
 returns-3 c = rw (sym (c .before .before .before .before .before .before .before .before .is-outcome .ensures) ∙ not-false _ (c .before .before .before .before .before .before .before .if1 .left), sym (c .before .before .before .before .before .is-account-ok .ensures) ∙ not-false _ (c .before .before .before .before .if2 .left), ← (c .before .before .report .ensures))

@@ -1,4 +1,5 @@
-use mathlib.Core.Path.{_≡_, sym, _∙_, subst}
+-- `centre::operations::on_pick` meets its contract. Assumes nothing.
+use mathlib.Core.Path.{sym, _∙_, subst}
 use borrow.Author.Tests.{not-true, not-false}
 use Rattle.octets.specs.Choice.{if_then_else_}
 use Rattle.store.specs.Places.{OnePlace}
@@ -6,38 +7,27 @@ use Rattle.centre.specs.Bound.{onPick}
 use borrow.Author.Needs.{needs}
 use Rattle.centre.proofs.operations.on_pick.Statement.{statement}
 use Rattle.centre.proofs.operations.on_pick.Tie as tie
-use Rattle.centre.proofs.operations.on_pick.Reads as reads
-use Rattle.centre.proofs.operations.on_pick.Lts as lts
-use Rattle.store.proofs.account.is_account_ok.Reads as is-account-ok-reads
-use Rattle.store.proofs.search.find_next.Reads as find-next-reads
 
--- src/operations.rt:83:9
 is-account-ok-requires : tie.Need-is-account-ok-requires
 is-account-ok-requires c κs = search needs
 
--- src/operations.rt:84:9
 returns : tie.Need-returns
 unfolding onPick if_then_else_
 returns c = (rw (sym (c .before .is-account-ok .ensures) ∙ not-true _ (c .if1 .taken)), tt)
 
--- src/operations.rt:86:9
 find-next-requires : tie.Need-find-next-requires
 find-next-requires c κs = search needs
 
--- src/operations.rt:88:19
 enum-known-found : tie.Need-enum-known-found
 enum-known-found c = search needs
 
--- src/operations.rt:89:27
 enum-told : tie.Need-enum-told
 enum-told c = search needs
 
--- src/operations.rt:79:1
 returns-2 : tie.Need-returns-2
 unfolding onPick if_then_else_
 returns-2 c = (rw (sym (c .before .before .before .before .before .is-account-ok .ensures) ∙ not-false _ (c .before .before .before .before .if1 .left), sym (c .before .before .before .find-next .ensures .0) ∙ c .before .found .given .1), subst OnePlace (c .before .found .given .1) (c .before .before .before .find-next .ensures .1))
 
--- src/operations.rt:79:1
 returns-3 : tie.Need-returns-3
 unfolding onPick if_then_else_
 returns-3 c = (rw (sym (c .before .before .before .before .is-account-ok .ensures) ∙ not-false _ (c .before .before .before .if1 .left), sym (c .before .before .find-next .ensures .0) ∙ c .enum-told .given .1), tt)

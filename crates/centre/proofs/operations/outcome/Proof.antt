@@ -1,5 +1,6 @@
+-- `centre::operations::outcome` meets its contract. Assumes nothing.
 use Rattle.octets.proofs.StretchLaws.{part-cut, part-length}
-use mathlib.Core.Path.{_≡_, refl, sym, ap, _∙_}
+use mathlib.Core.Path.{_≡_, sym, ap, _∙_}
 use mathlib.Core.List.{List}
 use Prim.Native.Nat.{ℕ, _*_}
 use native.Mathlib.Omega.{arith}
@@ -17,64 +18,45 @@ use Rattle.centre.proofs.StateLaws.{issued-same}
 use borrow.Author.Needs.{needs}
 use Rattle.centre.proofs.operations.outcome.Statement.{statement}
 use Rattle.centre.proofs.operations.outcome.Tie as tie
-use Rattle.centre.proofs.operations.outcome.Reads as reads
-use Rattle.centre.proofs.operations.outcome.Lts as lts
-use Rattle.centre.proofs.operations.check_outcome.Reads as check-outcome-reads
-use Rattle.centre.proofs.operations.on_outcome.Reads as on-outcome-reads
-use Rattle.session.proofs.State.last.Reads as last-reads
-use Rattle.store.proofs.book.record_of.Reads as record-of-reads
 
--- src/operations.rt:60:9
 check-outcome-requires : tie.Need-check-outcome-requires
 check-outcome-requires c κs = search needs
 
--- src/operations.rt:62:9
 returns : tie.Need-returns
 unfolding step if_then_else_
 returns c = rw (← (c .before .check-outcome .ensures .0), ne-eqb _ _ (c .if1 .taken))
 
--- src/operations.rt:65:9
 returns-2 : tie.Need-returns-2
 unfolding step if_then_else_
 returns-2 c = rw (← (c .before .before .check-outcome .ensures .0), eq-eqb _ _ (c .before .if1 .left), le-ltb _ _ (c .if2 .taken))
 
--- src/operations.rt:67:9
 record-of-requires : tie.Need-record-of-requires
 record-of-requires c κs = let f = c .before .before .check-outcome .ensures .1 (c .before .if1 .left) in (f .bookFits, c .if2 .left)
 
--- src/operations.rt:68:9
 last-requires : tie.Need-last-requires
 last-requires c κs = search needs
 
--- src/operations.rt:69:14
 mul-at : tie.Need-mul-at
 mul-at c = search needs
 
--- src/operations.rt:70:39
 add-on-outcome : tie.Need-add-on-outcome
 add-on-outcome c = search needs
 
--- src/operations.rt:70:24
 sub-on-outcome : tie.Need-sub-on-outcome
 sub-on-outcome c = search needs
 
--- src/operations.rt:70:24
 part-on-outcome-start : tie.Need-part-on-outcome-start
 part-on-outcome-start c = search needs
 
--- src/operations.rt:70:24
 part-on-outcome-end : tie.Need-part-on-outcome-end
 part-on-outcome-end c = let f = c .before .before .before .before .check-outcome .ensures .1 (c .before .before .before .if1 .left) in omega (arith, f .tableFits, c .before .before .if2 .left)
 
--- src/operations.rt:70:5
 on-outcome-requires : tie.Need-on-outcome-requires
 on-outcome-requires c κs = let f = c .before .before .before .before .before .check-outcome .ensures .1 (c .before .before .before .before .if1 .left) in (c .before .before .record-of .ensures .1, (ap length (part-cut (4096 * c .before .before .before .before .before .before .before .before .before .args .account) 4096 (c .before .before .before .before .before .before .before .before .before .args .table .now)) ∙ part-length (4096 * c .before .before .before .before .before .before .before .before .before .args .account) 4096 (c .before .before .before .before .before .before .before .before .before .args .table .now) (omega (arith, f .tableFits, c .before .before .before .if2 .left)), f .stampFits))
 
--- src/operations.rt:48:1
 same-length : tie.Need-same-length
 same-length c = search needs
 
--- src/operations.rt:48:1
 returns-3 : tie.Need-returns-3
 unfolding step act if_then_else_
 returns-3 c = let f = c .before .before .before .before .before .before .before .before .check-outcome .ensures .1 (c .before .before .before .before .before .before .before .if1 .left) in

@@ -1,4 +1,5 @@
-use mathlib.Core.Path.{_≡_, subst}
+-- `centre::operations::pick` meets its contract. Assumes nothing.
+use mathlib.Core.Path.{subst}
 use Prim.Native.Nat.{_+_, _≤_}
 use native.Mathlib.Omega.{arith}
 use lib.ListN.{length}
@@ -8,47 +9,34 @@ use Rattle.centre.specs.declared.operations.Located.{Located}
 use borrow.Author.Needs.{needs}
 use Rattle.centre.proofs.operations.pick.Statement.{statement}
 use Rattle.centre.proofs.operations.pick.Tie as tie
-use Rattle.centre.proofs.operations.pick.Reads as reads
-use Rattle.centre.proofs.operations.pick.Lts as lts
-use Rattle.centre.proofs.operations.locate.Reads as locate-reads
 
--- src/operations.rt:144:9
 locate-requires : tie.Need-locate-requires
 locate-requires c κs = search needs
 
--- src/operations.rt:146:32
 enum-told : tie.Need-enum-told
 enum-told c = search needs
 
--- src/operations.rt:146:32
 slice-aggregate-result : tie.Need-slice-aggregate-result
 slice-aggregate-result c = search needs
 
--- src/operations.rt:147:21
 enum-known-located : tie.Need-enum-known-located
 enum-known-located c = search needs
 
--- src/operations.rt:147:39
 add-result : tie.Need-add-result
 add-result c = let b : c .before .located .given .0 .0 + 256 ≤ length (c .before .before .before .before .before .before .args .table .now) = subst (λ (l : Located). LocatedInside l (c .before .before .before .before .before .before .args .table .now)) (c .before .located .given .1) (c .before .before .before .locate .ensures .1) in omega arith
 
--- src/operations.rt:147:28
 sub-result : tie.Need-sub-result
 sub-result c = search needs
 
--- src/operations.rt:147:28
 part-result-start : tie.Need-part-result-start
 part-result-start c = search needs
 
--- src/operations.rt:147:28
 part-result-end : tie.Need-part-result-end
 part-result-end c = let b : c .before .located .given .0 .0 + 256 ≤ length (c .before .before .before .before .before .before .args .table .now) = subst (λ (l : Located). LocatedInside l (c .before .before .before .before .before .before .args .table .now)) (c .before .located .given .1) (c .before .before .before .locate .ensures .1) in omega arith
 
--- src/operations.rt:141:1
 returns : tie.Need-returns
 returns c = rw (← (c .before .before .before .locate .ensures .0), c .before .enum-told .given .1)
 
--- src/operations.rt:141:1
 returns-2 : tie.Need-returns-2
 returns-2 c = rw (← (c .before .before .before .before .locate .ensures .0), c .before .before .located .given .1) (part-cut (c .before .before .located .given .0 .0) 256 (c .before .before .before .before .before .before .before .args .table .now))
 

@@ -1,27 +1,20 @@
+-- `centre::operations::pick_number` meets its contract. Assumes nothing.
 use borrow.Author.Needs.{needs}
 use Rattle.centre.proofs.operations.pick_number.Statement.{statement}
 use Rattle.centre.proofs.operations.pick_number.Tie as tie
-use Rattle.centre.proofs.operations.pick_number.Reads as reads
-use Rattle.centre.proofs.operations.pick_number.Lts as lts
-use Rattle.centre.proofs.operations.locate.Reads as locate-reads
 
--- src/operations.rt:133:9
 locate-requires : tie.Need-locate-requires
 locate-requires c κs = search needs
 
--- src/operations.rt:135:26
 enum-known-located : tie.Need-enum-known-located
 enum-known-located c = search needs
 
--- src/operations.rt:136:27
 enum-told : tie.Need-enum-told
 enum-told c = search needs
 
--- src/operations.rt:130:1
 returns : tie.Need-returns
 returns c = rw (← (c .before .before .before .locate .ensures .0), c .before .located .given .1)
 
--- src/operations.rt:130:1
 returns-2 : tie.Need-returns-2
 returns-2 c = rw (← (c .before .before .locate .ensures .0), c .enum-told .given .1)
 

@@ -1,39 +1,32 @@
+-- `centre::take::check` meets its contract. Assumes nothing.
 use mathlib.Core.Bool.{not}
 use lib.Dec.{eqb}
-use mathlib.Core.Path.{_≡_, sym, _∙_}
+use mathlib.Core.Path.{sym, _∙_}
 use native.Mathlib.Omega.{arith}
 use borrow.Author.Tests.{lt-ltb, le-ltb, eqb-true, not-true, not-false}
 use Rattle.octets.specs.Choice.{if_then_else_}
 use Rattle.octets.proofs.StretchLaws.{or-left, or-right}
 use Rattle.forms.proofs.TimeLaws.{sent-length}
-use Rattle.centre.specs.Centre.{octetsEarly, Fit}
+use Rattle.centre.specs.Centre.{octetsEarly}
 use borrow.Author.Needs.{needs}
 use Rattle.centre.proofs.take.check.Statement.{statement}
 use Rattle.centre.proofs.take.check.Tie as tie
-use Rattle.centre.proofs.take.check.Reads as reads
-use Rattle.centre.proofs.take.check.Lts as lts
-use Rattle.forms.proofs.time.is_sent_time.Reads as is-sent-time-reads
 
--- src/take.rt:44:9
 returns : tie.Need-returns
 unfolding octetsEarly if_then_else_
 returns c = (rw (c .if1 .taken), λ e. absurd (omega arith))
 
--- src/take.rt:47:9
 returns-2 : tie.Need-returns-2
 unfolding octetsEarly if_then_else_
 returns-2 c = (rw (c .before .if1 .left, lt-ltb _ _ (c .if2 .taken)), λ e. absurd (omega arith))
 
--- src/take.rt:49:9
 is-sent-time-requires : tie.Need-is-sent-time-requires
 is-sent-time-requires c κs = search needs
 
--- src/take.rt:50:9
 returns-3 : tie.Need-returns-3
 unfolding octetsEarly if_then_else_
 returns-3 c = (rw (c .before .before .before .if1 .left, le-ltb _ _ (c .before .before .if2 .left), sym (c .before .is-sent-time .ensures) ∙ not-true _ (c .if3 .taken)), λ e. absurd (omega arith))
 
--- src/take.rt:40:1
 returns-4 : tie.Need-returns-4
 unfolding octetsEarly if_then_else_
 returns-4 c = (

@@ -1,125 +1,93 @@
-use mathlib.Core.Path.{_≡_, refl, sym, _∙_}
+-- `centre::take::take` meets its contract. Assumes nothing.
+use mathlib.Core.Path.{refl, sym, _∙_}
 use borrow.Author.Tests.{eq-eqb, ne-eqb, le-leb, lt-leb}
 use Rattle.octets.specs.Choice.{if_then_else_}
 use Rattle.isolation.specs.Platform.{step}
 use borrow.Author.Needs.{needs}
 use Rattle.centre.proofs.take.take.Statement.{statement}
 use Rattle.centre.proofs.take.take.Tie as tie
-use Rattle.centre.proofs.take.take.Reads as reads
-use Rattle.centre.proofs.take.take.Lts as lts
-use Rattle.centre.proofs.take.check.Reads as check-reads
-use Rattle.centre.proofs.take.refuse.Reads as refuse-reads
-use Rattle.centre.proofs.take.take_bound.Reads as take-bound-reads
-use Rattle.centre.proofs.take.take_open.Reads as take-open-reads
-use Rattle.session.proofs.State.entry.Reads as entry-reads
 
--- src/take.rt:127:9
 refuse-requires : tie.Need-refuse-requires
 refuse-requires c κs = search needs
 
--- src/take.rt:127:9
 returns : tie.Need-returns
 unfolding step if_then_else_
 returns c = rw (le-leb _ _ (c .before .if1 .taken), c .refuse .ensures)
 
--- src/take.rt:129:9
 check-requires : tie.Need-check-requires
 check-requires c κs = search needs
 
--- src/take.rt:131:9
 refuse-requires-2 : tie.Need-refuse-requires-2
 refuse-requires-2 c κs = search needs
 
--- src/take.rt:131:9
 returns-2 : tie.Need-returns-2
 unfolding step if_then_else_
 returns-2 c = rw (lt-leb _ _ (c .before .before .before .if1 .left), ← (c .before .before .check .ensures .0), ne-eqb _ _ (c .before .if2 .taken), c .refuse2 .ensures)
 
--- src/take.rt:133:9
 entry-requires : tie.Need-entry-requires
 entry-requires c κs = search needs
 
--- src/take.rt:135:26
 enum-told : tie.Need-enum-told
 enum-told c = search needs
 
--- src/take.rt:135:26
 refuse-requires-3 : tie.Need-refuse-requires-3
 refuse-requires-3 c κs = search needs
 
--- src/take.rt:136:64
 enum-told-2 : tie.Need-enum-told-2
 enum-told-2 c = search needs
 
--- src/take.rt:136:24
 take-open-requires : tie.Need-take-open-requires
 take-open-requires c κs = let f = c .before .before .before .before .before .check .ensures .1 (c .before .before .before .before .if2 .left) in (f .bookFits, (c .before .before .before .before .before .before .if1 .left, f .spaceFits))
 
--- src/take.rt:137:28
 enum-known-entry : tie.Need-enum-known-entry
 enum-known-entry c = search needs
 
--- src/take.rt:137:34
 take-bound-requires : tie.Need-take-bound-requires
 take-bound-requires c κs = let f = c .before .before .before .before .before .before .before .check .ensures .1 (c .before .before .before .before .before .before .if2 .left) in (((f .bookFits, f .tableFits), (c .before .before .before .before .before .before .before .before .if1 .left, refl)), (f .stampFits, f .spaceFits))
 
--- src/take.rt:138:25
 enum-known-entry-2 : tie.Need-enum-known-entry-2
 enum-known-entry-2 c = search needs
 
--- src/take.rt:138:31
 take-bound-requires-2 : tie.Need-take-bound-requires-2
 take-bound-requires-2 c κs = let f = c .before .before .before .before .before .before .before .check .ensures .1 (c .before .before .before .before .before .before .if2 .left) in (((f .bookFits, f .tableFits), (c .before .before .before .before .before .before .before .before .if1 .left, refl)), (f .stampFits, f .spaceFits))
 
--- src/take.rt:139:25
 enum-told-3 : tie.Need-enum-told-3
 enum-told-3 c = search needs
 
--- src/take.rt:139:25
 refuse-requires-4 : tie.Need-refuse-requires-4
 refuse-requires-4 c κs = search needs
 
--- src/take.rt:115:1
 returns-3 : tie.Need-returns-3
 unfolding step if_then_else_
 returns-3 c = rw (lt-leb _ _ (c .before .before .before .before .before .before .if1 .left), ← (c .before .before .before .before .before .check .ensures .0), eq-eqb _ _ (c .before .before .before .before .if2 .left), sym (c .before .before .before .entry .ensures) ∙ c .before .enum-told .given .1, c .refuse3 .ensures)
 
--- src/take.rt:115:1
 same-length : tie.Need-same-length
 same-length c = search needs
 
--- src/take.rt:115:1
 returns-4 : tie.Need-returns-4
 unfolding step if_then_else_
 returns-4 c = rw (lt-leb _ _ (c .before .before .before .before .before .before .before .before .before .if1 .left), ← (c .before .before .before .before .before .before .before .before .check .ensures .0), eq-eqb _ _ (c .before .before .before .before .before .before .before .if2 .left), sym (c .before .before .before .before .before .before .entry .ensures) ∙ c .before .before .before .before .enum-told2 .given .1) (c .before .before .take-open .ensures (c .before .before .before .before .before .before .before .before .before .before .before .before .before .before .before .args .stamp .now) (c .before .before .before .before .before .before .before .before .before .before .before .before .before .before .before .args .table .now))
 
--- src/take.rt:115:1
 same-length-2 : tie.Need-same-length-2
 same-length-2 c = search needs
 
--- src/take.rt:115:1
 same-length-3 : tie.Need-same-length-3
 same-length-3 c = search needs
 
--- src/take.rt:115:1
 returns-5 : tie.Need-returns-5
 unfolding step if_then_else_
 returns-5 c = rw (lt-leb _ _ (c .before .before .before .before .before .before .before .before .before .before .before .before .before .if1 .left), ← (c .before .before .before .before .before .before .before .before .before .before .before .before .check .ensures .0), eq-eqb _ _ (c .before .before .before .before .before .before .before .before .before .before .before .if2 .left), sym (c .before .before .before .before .before .before .before .before .before .before .entry .ensures) ∙ c .before .before .before .before .before .before .before .before .entry2 .given .1) (c .before .before .before .before .take-bound .ensures)
 
--- src/take.rt:115:1
 same-length-4 : tie.Need-same-length-4
 same-length-4 c = search needs
 
--- src/take.rt:115:1
 same-length-5 : tie.Need-same-length-5
 same-length-5 c = search needs
 
--- src/take.rt:115:1
 returns-6 : tie.Need-returns-6
 unfolding step if_then_else_
 returns-6 c = rw (lt-leb _ _ (c .before .before .before .before .before .before .before .before .before .before .before .before .before .if1 .left), ← (c .before .before .before .before .before .before .before .before .before .before .before .before .check .ensures .0), eq-eqb _ _ (c .before .before .before .before .before .before .before .before .before .before .before .if2 .left), sym (c .before .before .before .before .before .before .before .before .before .before .entry .ensures) ∙ c .before .before .before .before .before .before .before .before .entry3 .given .1) (c .before .before .before .before .take-bound2 .ensures)
 
--- src/take.rt:115:1
 returns-7 : tie.Need-returns-7
 unfolding step if_then_else_
 returns-7 c = rw (lt-leb _ _ (c .before .before .before .before .before .before .if1 .left), ← (c .before .before .before .before .before .check .ensures .0), eq-eqb _ _ (c .before .before .before .before .if2 .left), sym (c .before .before .before .entry .ensures) ∙ c .before .enum-told3 .given .1, c .refuse4 .ensures)

@@ -1,90 +1,66 @@
+-- `centre::take::take_bound` meets its contract. Assumes nothing.
 use lib.ListN.{length}
 use native.Mathlib.Nat.{add-sub-cancel-left}
 use Rattle.centre.specs.declared.take.Taken.{Taken}
-use mathlib.Core.Path.{_≡_, refl, sym, ap, _∙_}
+use mathlib.Core.Path.{_≡_, ap, _∙_}
 use mathlib.Core.List.{List}
 use Prim.Native.Nat.{ℕ, _*_}
 use native.Mathlib.Omega.{arith}
 use borrow.Author.Tests.{lt-ltb, le-ltb}
 use Rattle.octets.specs.Choice.{if_then_else_}
-use Rattle.octets.proofs.StretchLaws.{part-cut, part-length}
+use Rattle.octets.proofs.StretchLaws.{part-length}
 use Rattle.octets.proofs.PatchLaws.{part-back}
 use Rattle.centre.specs.Centre.{act, takes}
 use borrow.Author.Needs.{needs}
 use Rattle.centre.proofs.take.take_bound.Statement.{statement}
 use Rattle.centre.proofs.take.take_bound.Tie as tie
-use Rattle.centre.proofs.take.take_bound.Reads as reads
-use Rattle.centre.proofs.take.take_bound.Lts as lts
-use Rattle.centre.proofs.bound.on_bound.Reads as on-bound-reads
-use Rattle.centre.proofs.take.left.Reads as left-reads
-use Rattle.centre.proofs.take.refuse.Reads as refuse-reads
-use Rattle.session.proofs.State.bind.Reads as bind-reads
-use Rattle.session.proofs.State.issue.Reads as issue-reads
-use Rattle.session.proofs.State.last.Reads as last-reads
-use Rattle.store.proofs.book.record_of.Reads as record-of-reads
 
--- src/take.rt:97:9
 refuse-requires : tie.Need-refuse-requires
 refuse-requires c κs = search needs
 
--- src/take.rt:97:9
 returns : tie.Need-returns
 unfolding if_then_else_
 returns c = rw (le-ltb _ _ (c .before .if1 .taken), c .refuse .ensures)
 
--- src/take.rt:100:9
 record-of-requires : tie.Need-record-of-requires
 record-of-requires c κs = search needs
 
--- src/take.rt:101:9
 last-requires : tie.Need-last-requires
 last-requires c κs = search needs
 
--- src/take.rt:102:14
 mul-at : tie.Need-mul-at
 mul-at c = search needs
 
--- src/take.rt:103:91
 add-on-bound : tie.Need-add-on-bound
 add-on-bound c = search needs
 
--- src/take.rt:103:76
 sub-on-bound : tie.Need-sub-on-bound
 sub-on-bound c = search needs
 
--- src/take.rt:103:76
 part-on-bound-start : tie.Need-part-on-bound-start
 part-on-bound-start c = search needs
 
--- src/take.rt:103:76
 part-on-bound-end : tie.Need-part-on-bound-end
 part-on-bound-end c = search needs
 
--- src/take.rt:103:9
 on-bound-requires : tie.Need-on-bound-requires
 on-bound-requires c κs = search needs
 
--- src/take.rt:104:36
 left-requires : tie.Need-left-requires
 left-requires c κs = search needs
 
--- src/take.rt:104:9
 bind-requires : tie.Need-bind-requires
 bind-requires c κs = search needs
 
--- src/take.rt:105:9
 issue-requires : tie.Need-issue-requires
 issue-requires c κs = search needs
 
--- src/take.rt:80:1
 same-length : tie.Need-same-length
 same-length c = search needs
 
--- src/take.rt:80:1
 same-length-2 : tie.Need-same-length-2
 same-length-2 c = search needs
 
--- src/take.rt:80:1
 returns-2 : tie.Need-returns-2
 unfolding act if_then_else_
 returns-2 c = let at = 4096 * c .before .before .before .before .before .before .before .before .before .before .before .before .before .before .before .before .before .before .args .a in

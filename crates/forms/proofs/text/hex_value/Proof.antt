@@ -1,7 +1,7 @@
 -- `forms::text::hex_value` meets its contract: what stands so far, with the digits to come behind it, is the number. Assumes nothing.
-use mathlib.Core.Path.{_≡_, refl, sym, _∙_, ap}
+use mathlib.Core.Path.{_≡_, refl, sym, _∙_}
 use mathlib.Core.List.{map}
-use Prim.Native.Nat.{ℕ, _≤_, _<_, _-_, _+_, _*_, _^_}
+use Prim.Native.Nat.{_≤_, _<_, _-_, _^_}
 use native.Mathlib.Omega.{arith}
 use borrow.Author.Needs.{needs}
 use lib.ListN.{length, drop}
@@ -10,9 +10,6 @@ use Rattle.forms.specs.Text.{hexValue, nibble}
 use Rattle.forms.proofs.HexLaws.{hex-more, hex-end, sixteenfold, seven}
 use Rattle.forms.proofs.text.hex_value.Statement.{statement}
 use Rattle.forms.proofs.text.hex_value.Tie as tie
-use Rattle.forms.proofs.text.hex_value.Reads as reads
-use Rattle.forms.proofs.text.hex_value.Lts as lts
-use Rattle.forms.proofs.text.nibble_of.Reads as nibble-of-reads
 
 abbrev Inv-loop : tie.InvT-loop
 Inv-loop digits value₀ i₀ value i = (i ≤ length digits) × ((value < 16 ^ i) × (hexValue digits ≡ onto 16 value (map nibble (drop i digits))))
@@ -20,35 +17,27 @@ Inv-loop digits value₀ i₀ value i = (i ≤ length digits) × ((value < 16 ^ 
 abbrev μ-loop : tie.MeasureT-loop
 μ-loop digits value₀ i₀ value i = length digits - i
 
--- src/text.rt:73:5
 loop-holds : tie.Need-loop-holds Inv-loop μ-loop
 loop-holds c = (omega arith, (omega arith, refl))
 
--- src/text.rt:74:17
 mul-value : tie.Need-mul-value Inv-loop μ-loop
 mul-value c = omega (arith, seven (c .before .loop .value) (c .before .loop .i) (omega arith) (omega arith))
 
--- src/text.rt:74:40
 shared-slice-read-nibble-of : tie.Need-shared-slice-read-nibble-of Inv-loop μ-loop
 shared-slice-read-nibble-of c = omega arith
 
--- src/text.rt:74:30
 nibble-of-requires : tie.Need-nibble-of-requires Inv-loop μ-loop
 nibble-of-requires c κs = search needs
 
--- src/text.rt:74:17
 add-value : tie.Need-add-value Inv-loop μ-loop
 add-value c = omega (arith, seven (c .before .before .before .loop .value) (c .before .before .before .loop .i) (omega arith) (omega arith))
 
--- src/text.rt:75:9
 add-i : tie.Need-add-i Inv-loop μ-loop
 add-i c = omega arith
 
--- src/text.rt:73:5
 loop-less : tie.Need-loop-less Inv-loop μ-loop
 loop-less c = omega arith
 
--- src/text.rt:73:5
 loop-again : tie.Need-loop-again Inv-loop μ-loop
 loop-again c = (
   omega arith,
@@ -58,7 +47,6 @@ loop-again c = (
   ),
 )
 
--- src/text.rt:67:1
 returns : tie.Need-returns Inv-loop μ-loop
 returns c = sym (c .before .loop .inv .1 .1 ∙ hex-end (c .before .before .before .args .digits .now) (c .before .loop .i) (c .before .loop .value) (c .loop-test .left))
 

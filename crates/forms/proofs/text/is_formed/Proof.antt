@@ -1,86 +1,64 @@
+-- `forms::text::is_formed` meets its contract. Assumes nothing.
 use Rattle.forms.specs.Text.{formed}
 use borrow.Author.Needs.{needs}
 use Rattle.forms.proofs.text.is_formed.Statement.{statement}
 use Rattle.forms.proofs.text.is_formed.Tie as tie
-use Rattle.forms.proofs.text.is_formed.Reads as reads
-use Rattle.forms.proofs.text.is_formed.Lts as lts
-use Rattle.forms.proofs.class.is_all.Reads as is-all-reads
-use Rattle.forms.proofs.text.after_spaces.Reads as after-spaces-reads
-use Rattle.forms.proofs.text.is_given.Reads as is-given-reads
 
--- src/text.rt:37:44
 enum-told : tie.Need-enum-told
 enum-told c = search needs
 
--- src/text.rt:37:24
 is-all-requires : tie.Need-is-all-requires
 is-all-requires c κs = search needs
 
--- src/text.rt:38:40
 enum-told-2 : tie.Need-enum-told-2
 enum-told-2 c = search needs
 
--- src/text.rt:38:25
 is-given-requires : tie.Need-is-given-requires
 is-given-requires c κs = search needs
 
--- src/text.rt:39:35
 enum-told-3 : tie.Need-enum-told-3
 enum-told-3 c = search needs
 
--- src/text.rt:39:35
 after-spaces-requires : tie.Need-after-spaces-requires
 after-spaces-requires c κs = search needs
 
--- src/text.rt:39:26
 is-given-requires-2 : tie.Need-is-given-requires-2
 is-given-requires-2 c κs = search needs
 
--- src/text.rt:41:14
 enum-told-4 : tie.Need-enum-told-4
 enum-told-4 c = search needs
 
--- src/text.rt:41:42
 after-spaces-requires-2 : tie.Need-after-spaces-requires-2
 after-spaces-requires-2 c κs = search needs
 
--- src/text.rt:41:33
 is-given-requires-3 : tie.Need-is-given-requires-3
 is-given-requires-3 c κs = search needs
 
--- src/text.rt:44:17
 enum-told-5 : tie.Need-enum-told-5
 enum-told-5 c = search needs
 
--- src/text.rt:44:17
 after-spaces-requires-3 : tie.Need-after-spaces-requires-3
 after-spaces-requires-3 c κs = search needs
 
--- src/text.rt:45:34
 is-given-requires-4 : tie.Need-is-given-requires-4
 is-given-requires-4 c κs = search needs
 
--- src/text.rt:33:1
 returns : tie.Need-returns
 unfolding formed
 returns c = rw (c .before .enum-told .given .1) (c .is-all .ensures)
 
--- src/text.rt:33:1
 returns-2 : tie.Need-returns-2
 unfolding formed
 returns-2 c = rw (c .before .enum-told2 .given .1) (c .is-given .ensures)
 
--- src/text.rt:33:1
 returns-3 : tie.Need-returns-3
 unfolding formed
 returns-3 c = rw (c .before .before .enum-told3 .given .1, ← (c .before .after-spaces .ensures)) (c .is-given2 .ensures)
 
--- src/text.rt:33:1
 returns-4 : tie.Need-returns-4
 unfolding formed
 returns-4 c = rw (c .before .before .enum-told4 .given .1, ← (c .before .after-spaces2 .ensures), c .is-given3 .ensures)
 
--- src/text.rt:33:1
 returns-5 : tie.Need-returns-5
 unfolding formed
 returns-5 c = rw (c .before .before .enum-told5 .given .1, ← (c .before .after-spaces3 .ensures), c .is-given4 .ensures)

@@ -1,3 +1,4 @@
+-- `forms::text::message_id` meets its contract. Assumes nothing.
 use mathlib.Core.Path.{ap}
 use native.Mathlib.Omega.{arith}
 use lib.ListN.{length}
@@ -8,25 +9,17 @@ use Rattle.octets.specs.Choice.{if_then_else_}
 use Rattle.forms.specs.Text.{messageId}
 use Rattle.forms.proofs.text.message_id.Statement.{statement}
 use Rattle.forms.proofs.text.message_id.Tie as tie
-use Rattle.forms.proofs.text.message_id.Reads as reads
-use Rattle.forms.proofs.text.message_id.Lts as lts
-use Rattle.forms.proofs.text.after_spaces.Reads as after-spaces-reads
-use Rattle.forms.proofs.text.hex_value.Reads as hex-value-reads
 
--- src/text.rt:93:37
 after-spaces-requires : tie.Need-after-spaces-requires
 after-spaces-requires c κs = search needs
 
--- src/text.rt:93:27
 hex-value-requires : tie.Need-hex-value-requires
 hex-value-requires c κs = omega (arith, ap length (c .after-spaces .ensures), afterSpaces-within (c .before .before .before .args .text .now))
 
--- src/text.rt:86:1
 returns : tie.Need-returns
 unfolding messageId if_then_else_
 returns c = rw (eq-eqb _ _ (c .if1 .taken))
 
--- src/text.rt:86:1
 returns-2 : tie.Need-returns-2
 unfolding messageId if_then_else_
 returns-2 c = rw (ne-eqb _ _ (c .before .before .if1 .left), ← (c .before .after-spaces .ensures), c .hex-value .ensures)

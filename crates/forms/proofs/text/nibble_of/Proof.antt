@@ -6,50 +6,37 @@ use Rattle.forms.proofs.ClassLaws.{within-low, within-high}
 use borrow.Author.Needs.{needs}
 use Rattle.forms.proofs.text.nibble_of.Statement.{statement}
 use Rattle.forms.proofs.text.nibble_of.Tie as tie
-use Rattle.forms.proofs.text.nibble_of.Reads as reads
-use Rattle.forms.proofs.text.nibble_of.Lts as lts
-use Rattle.octets.proofs.number.wide.Reads as wide-reads
 
--- src/text.rt:55:37
 sub-wide : tie.Need-sub-wide
 sub-wide c = omega (arith, within-low 48 57 (c .before .args .x) (c .if1 .taken))
 
--- src/text.rt:55:9
 wide-requires : tie.Need-wide-requires
 wide-requires c κs = search needs
 
--- src/text.rt:55:9
 returns : tie.Need-returns
 unfolding nibble if_then_else_
 returns c = (rw (c .before .if1 .taken) (c .wide .ensures .0), omega (arith, within-high 48 57 (c .before .before .args .x) (c .before .if1 .taken)))
 
--- src/text.rt:58:37
 sub-wide-2 : tie.Need-sub-wide-2
 sub-wide-2 c = omega (arith, within-low 65 70 (c .before .before .args .x) (c .if2 .taken))
 
--- src/text.rt:58:9
 wide-requires-2 : tie.Need-wide-requires-2
 wide-requires-2 c κs = search needs
 
--- src/text.rt:58:9
 returns-2 : tie.Need-returns-2
 unfolding nibble if_then_else_
 returns-2 c = (rw (c .before .before .if1 .left, c .before .if2 .taken) (c .wide2 .ensures .0), omega (arith, within-high 65 70 (c .before .before .before .args .x) (c .before .if2 .taken)))
 
--- src/text.rt:61:37
 sub-wide-3 : tie.Need-sub-wide-3
 sub-wide-3 c = omega (arith, within-low 97 102 (c .before .before .before .args .x) (c .if3 .taken))
 
--- src/text.rt:61:9
 wide-requires-3 : tie.Need-wide-requires-3
 wide-requires-3 c κs = search needs
 
--- src/text.rt:61:9
 returns-3 : tie.Need-returns-3
 unfolding nibble if_then_else_
 returns-3 c = (rw (c .before .before .before .if1 .left, c .before .before .if2 .left, c .before .if3 .taken) (c .wide3 .ensures .0), omega (arith, within-high 97 102 (c .before .before .before .before .args .x) (c .before .if3 .taken)))
 
--- src/text.rt:51:1
 returns-4 : tie.Need-returns-4
 unfolding nibble if_then_else_
 returns-4 c = (rw (c .before .before .if1 .left, c .before .if2 .left, c .if3 .left), omega arith)

@@ -1,5 +1,5 @@
 -- `forms::time::is_two` meets its contract: two decimal digits are no less than "0". Assumes nothing.
-use mathlib.Core.Path.{_≡_, sym, _∙_}
+use mathlib.Core.Path.{_≡_}
 use mathlib.Core.Bool.{true, _&&_}
 use Prim.Native.Nat.{ℕ, _≤_}
 use native.Mathlib.Omega.{arith}
@@ -11,9 +11,6 @@ use Rattle.forms.proofs.ClassLaws.{within-low, within-high}
 use borrow.Author.Needs.{needs}
 use Rattle.forms.proofs.time.is_two.Statement.{statement}
 use Rattle.forms.proofs.time.is_two.Tie as tie
-use Rattle.forms.proofs.time.is_two.Reads as reads
-use Rattle.forms.proofs.time.is_two.Lts as lts
-use Rattle.forms.proofs.class.is_decimal.Reads as is-decimal-reads
 
 -- what two decimal digits are
 record Digits (a b : ℕ) : Type 0 where
@@ -30,36 +27,28 @@ digits a b h = record {
   highB = within-high 48 57 b (and-right (decimal a) (decimal b) h);
 }
 
--- src/time.rt:12:8
 is-decimal-requires : tie.Need-is-decimal-requires
 is-decimal-requires c κs = search needs
 
--- src/time.rt:12:31
 is-decimal-requires-2 : tie.Need-is-decimal-requires-2
 is-decimal-requires-2 c κs = search needs
 
--- src/time.rt:13:18
 sub-n : tie.Need-sub-n
 sub-n c = let d = digits (c .before .before .before .args .a) (c .before .before .before .args .b) (rw (c .before .is-decimal2 .ensures, c .before .before .is-decimal .ensures) at (c .if1 .taken)) in omega arith
 
--- src/time.rt:13:17
 mul-n : tie.Need-mul-n
 mul-n c = let d = digits (c .before .before .before .args .a) (c .before .before .before .args .b) (rw (c .before .is-decimal2 .ensures, c .before .before .is-decimal .ensures) at (c .if1 .taken)) in omega arith
 
--- src/time.rt:13:34
 sub-n-2 : tie.Need-sub-n-2
 sub-n-2 c = let d = digits (c .before .before .before .args .a) (c .before .before .before .args .b) (rw (c .before .is-decimal2 .ensures, c .before .before .is-decimal .ensures) at (c .if1 .taken)) in omega arith
 
--- src/time.rt:13:17
 add-n : tie.Need-add-n
 add-n c = let d = digits (c .before .before .before .args .a) (c .before .before .before .args .b) (rw (c .before .is-decimal2 .ensures, c .before .before .is-decimal .ensures) at (c .if1 .taken)) in omega arith
 
--- src/time.rt:9:1
 returns : tie.Need-returns
 unfolding twoDigits if_then_else_
 returns c = rw (rw (c .before .is-decimal2 .ensures, c .before .before .is-decimal .ensures) at (c .if1 .taken))
 
--- src/time.rt:9:1
 returns-2 : tie.Need-returns-2
 unfolding twoDigits if_then_else_
 returns-2 c = rw (rw (c .before .is-decimal2 .ensures, c .before .before .is-decimal .ensures) at (c .if1 .left))

@@ -8,8 +8,6 @@ use Rattle.octets.specs.Stretch.{zeros, isZero}
 use Rattle.octets.proofs.StretchLaws.{every-turn, every-end}
 use Rattle.octets.proofs.stretch.all_zero.Statement.{statement}
 use Rattle.octets.proofs.stretch.all_zero.Tie as tie
-use Rattle.octets.proofs.stretch.all_zero.Reads as reads
-use Rattle.octets.proofs.stretch.all_zero.Lts as lts
 
 abbrev Inv-loop : tie.InvT-loop
 Inv-loop s zero₀ i₀ zero i = (i ≤ length s) × (zeros s ≡ (zero && zeros (drop i s)))
@@ -17,27 +15,21 @@ Inv-loop s zero₀ i₀ zero i = (i ≤ length s) × (zeros s ≡ (zero && zeros
 abbrev μ-loop : tie.MeasureT-loop
 μ-loop s zero₀ i₀ zero i = length s - i
 
--- src/stretch.rt:52:5
 loop-holds : tie.Need-loop-holds Inv-loop μ-loop
 loop-holds c = (omega arith, refl)
 
--- src/stretch.rt:53:24
 shared-slice-read-zero : tie.Need-shared-slice-read-zero Inv-loop μ-loop
 shared-slice-read-zero c = omega arith
 
--- src/stretch.rt:54:9
 add-i : tie.Need-add-i Inv-loop μ-loop
 add-i c = omega arith
 
--- src/stretch.rt:52:5
 loop-less : tie.Need-loop-less Inv-loop μ-loop
 loop-less c = omega arith
 
--- src/stretch.rt:52:5
 loop-again : tie.Need-loop-again Inv-loop μ-loop
 loop-again c = (omega arith, c .before .before .loop .inv .1 ∙ every-turn isZero (c .before .before .loop .zero) (c .before .before .before .args .s .now) (c .before .before .loop .i) (c .before .loop-test .taken))
 
--- src/stretch.rt:47:1
 returns : tie.Need-returns Inv-loop μ-loop
 returns c = sym (c .before .loop .inv .1 ∙ every-end isZero (c .before .loop .zero) (c .before .before .args .s .now) (c .before .loop .i) (c .loop-test .left))
 

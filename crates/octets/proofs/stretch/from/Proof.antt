@@ -1,40 +1,31 @@
+-- `octets::stretch::from` meets its contract. Assumes nothing.
 use native.Mathlib.Omega.{arith}
 use Rattle.octets.proofs.StretchLaws.{drop-cut, drop-past}
 use borrow.Author.Needs.{needs}
 use Rattle.octets.proofs.stretch.from.Statement.{statement}
 use Rattle.octets.proofs.stretch.from.Tie as tie
-use Rattle.octets.proofs.stretch.from.Reads as reads
-use Rattle.octets.proofs.stretch.from.Lts as lts
 
--- src/stretch.rt:12:9
 sub-result : tie.Need-sub-result
 sub-result c = search needs
 
--- src/stretch.rt:12:9
 part-result-start : tie.Need-part-result-start
 part-result-start c = search needs
 
--- src/stretch.rt:12:9
 part-result-end : tie.Need-part-result-end
 part-result-end c = search needs
 
--- src/stretch.rt:15:9
 sub-result-2 : tie.Need-sub-result-2
 sub-result-2 c = search needs
 
--- src/stretch.rt:15:9
 part-result-start-2 : tie.Need-part-result-start-2
 part-result-start-2 c = search needs
 
--- src/stretch.rt:15:9
 part-result-end-2 : tie.Need-part-result-end-2
 part-result-end-2 c = search needs
 
--- src/stretch.rt:8:1
 returns : tie.Need-returns
 returns c = drop-cut (c .before .before .args .at) (c .before .before .args .s .now)
 
--- src/stretch.rt:8:1
 returns-2 : tie.Need-returns-2
 returns-2 c = drop-past (c .before .before .args .at) (c .before .before .args .s .now) (omega arith)
 

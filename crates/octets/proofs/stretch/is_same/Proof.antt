@@ -8,8 +8,6 @@ use Rattle.octets.specs.Stretch.{same}
 use Rattle.octets.proofs.StretchLaws.{same-turn, same-end, same-lengths}
 use Rattle.octets.proofs.stretch.is_same.Statement.{statement}
 use Rattle.octets.proofs.stretch.is_same.Tie as tie
-use Rattle.octets.proofs.stretch.is_same.Reads as reads
-use Rattle.octets.proofs.stretch.is_same.Lts as lts
 
 abbrev Inv-loop : tie.InvT-loop
 Inv-loop a b equal₀ i₀ equal i = (i ≤ length a) × (same a b ≡ (equal && same (drop i a) (drop i b)))
@@ -17,35 +15,27 @@ Inv-loop a b equal₀ i₀ equal i = (i ≤ length a) × (same a b ≡ (equal &&
 abbrev μ-loop : tie.MeasureT-loop
 μ-loop a b equal₀ i₀ equal i = length a - i
 
--- src/stretch.rt:35:9
 returns : tie.Need-returns Inv-loop μ-loop
 returns c = sym (same-lengths _ _ (c .if1 .taken))
 
--- src/stretch.rt:39:5
 loop-holds : tie.Need-loop-holds Inv-loop μ-loop
 loop-holds c = (omega arith, refl)
 
--- src/stretch.rt:40:26
 shared-slice-read-equal : tie.Need-shared-slice-read-equal Inv-loop μ-loop
 shared-slice-read-equal c = omega arith
 
--- src/stretch.rt:40:34
 shared-slice-read-equal-2 : tie.Need-shared-slice-read-equal-2 Inv-loop μ-loop
 shared-slice-read-equal-2 c = omega arith
 
--- src/stretch.rt:41:9
 add-i : tie.Need-add-i Inv-loop μ-loop
 add-i c = omega arith
 
--- src/stretch.rt:39:5
 loop-less : tie.Need-loop-less Inv-loop μ-loop
 loop-less c = omega arith
 
--- src/stretch.rt:39:5
 loop-again : tie.Need-loop-again Inv-loop μ-loop
 loop-again c = (omega arith, c .before .before .before .loop .inv .1 ∙ same-turn (c .before .before .before .loop .equal) (c .before .before .before .before .before .args .a .now) (c .before .before .before .before .before .args .b .now) (c .before .before .before .loop .i) (omega arith) (omega arith))
 
--- src/stretch.rt:31:1
 returns-2 : tie.Need-returns-2 Inv-loop μ-loop
 returns-2 c = sym (c .before .loop .inv .1 ∙ same-end (c .before .loop .equal) (c .before .before .before .args .a .now) (c .before .before .before .args .b .now) (c .before .loop .i) (omega arith) (omega arith))
 

@@ -8,8 +8,6 @@ use lib.Seq.{paste}
 use Rattle.octets.proofs.PatchLaws.{put-none, put-more, put-all}
 use Rattle.octets.proofs.stretch.put.Statement.{statement}
 use Rattle.octets.proofs.stretch.put.Tie as tie
-use Rattle.octets.proofs.stretch.put.Reads as reads
-use Rattle.octets.proofs.stretch.put.Lts as lts
 
 abbrev Inv-loop : tie.InvT-loop
 Inv-loop target₀ at source i₀ target i = (i ≤ length source) × ((target ≡ paste target₀ at source i) × (length target ≡ length target₀))
@@ -17,31 +15,24 @@ Inv-loop target₀ at source i₀ target i = (i ≤ length source) × ((target �
 abbrev μ-loop : tie.MeasureT-loop
 μ-loop target₀ at source i₀ target i = length source - i
 
--- src/stretch.rt:65:5
 loop-holds : tie.Need-loop-holds Inv-loop μ-loop
 loop-holds c = (omega arith, (put-none (c .args .target .now) (c .args .at) (c .args .source .now), refl))
 
--- src/stretch.rt:66:26
 shared-slice-read-target : tie.Need-shared-slice-read-target Inv-loop μ-loop
 shared-slice-read-target c = omega arith
 
--- src/stretch.rt:66:16
 add-target : tie.Need-add-target Inv-loop μ-loop
 add-target c = omega arith
 
--- src/stretch.rt:66:9
 slice-write-target : tie.Need-slice-write-target Inv-loop μ-loop
 slice-write-target c = omega arith
 
--- src/stretch.rt:67:9
 add-i : tie.Need-add-i Inv-loop μ-loop
 add-i c = omega arith
 
--- src/stretch.rt:65:5
 loop-less : tie.Need-loop-less Inv-loop μ-loop
 loop-less c = omega arith
 
--- src/stretch.rt:65:5
 loop-again : tie.Need-loop-again Inv-loop μ-loop
 loop-again c = (
   omega arith,
@@ -52,11 +43,9 @@ loop-again c = (
   ),
 )
 
--- src/stretch.rt:60:1
 same-length : tie.Need-same-length Inv-loop μ-loop
 same-length c = c .before .loop .inv .1 .1
 
--- src/stretch.rt:60:1
 returns : tie.Need-returns Inv-loop μ-loop
 returns c = c .before .loop .inv .1 .0 ∙ put-all _ _ _ _ (c .before .before .pre) (c .before .loop .inv .0) (c .loop-test .left)
 

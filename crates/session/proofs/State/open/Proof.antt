@@ -1,3 +1,4 @@
+-- `session::State::open` meets its contract. Assumes nothing.
 use mathlib.Core.Path.{sym, _∙_}
 use borrow.Author.Tests.{le-leb, lt-leb}
 use Rattle.octets.specs.Choice.{if_then_else_}
@@ -5,65 +6,48 @@ use Rattle.session.specs.State.{opened}
 use borrow.Author.Needs.{needs}
 use Rattle.session.proofs.State.open.Statement.{statement}
 use Rattle.session.proofs.State.open.Tie as tie
-use Rattle.session.proofs.State.open.Reads as reads
-use Rattle.session.proofs.State.open.Lts as lts
-use Rattle.session.proofs.State.bind.Reads as bind-reads
-use Rattle.session.proofs.State.entry.Reads as entry-reads
 
--- src/lib.rt:94:13
 returns : tie.Need-returns
 unfolding opened if_then_else_
 returns c = rw (le-leb _ _ (c .if1 .taken))
 
--- src/lib.rt:99:13
 entry-requires : tie.Need-entry-requires
 entry-requires c κs = search needs
 
--- src/lib.rt:102:48
 enum-told : tie.Need-enum-told
 enum-told c = search needs
 
--- src/lib.rt:102:21
 bind-requires : tie.Need-bind-requires
 bind-requires c κs = search needs
 
--- src/lib.rt:108:28
 enum-told-2 : tie.Need-enum-told-2
 enum-told-2 c = search needs
 
--- src/lib.rt:112:38
 enum-told-3 : tie.Need-enum-told-3
 enum-told-3 c = search needs
 
--- src/lib.rt:116:35
 enum-told-4 : tie.Need-enum-told-4
 enum-told-4 c = search needs
 
--- src/lib.rt:120:29
 enum-told-5 : tie.Need-enum-told-5
 enum-told-5 c = search needs
 
--- src/lib.rt:90:5
 returns-2 : tie.Need-returns-2
 unfolding opened if_then_else_
 returns-2 c = rw (lt-leb _ _ (c .before .before .before .before .if1 .left), sym (c .before .before .before .entry .ensures) ∙ c .before .enum-told .given .1, c .bind .ensures)
 
--- src/lib.rt:90:5
 returns-3 : tie.Need-returns-3
 unfolding opened if_then_else_
 returns-3 c = rw (lt-leb _ _ (c .before .before .before .if1 .left), sym (c .before .before .entry .ensures) ∙ c .enum-told2 .given .1)
 
--- src/lib.rt:90:5
 returns-4 : tie.Need-returns-4
 unfolding opened if_then_else_
 returns-4 c = rw (lt-leb _ _ (c .before .before .before .if1 .left), sym (c .before .before .entry .ensures) ∙ c .enum-told3 .given .1)
 
--- src/lib.rt:90:5
 returns-5 : tie.Need-returns-5
 unfolding opened if_then_else_
 returns-5 c = rw (lt-leb _ _ (c .before .before .before .if1 .left), sym (c .before .before .entry .ensures) ∙ c .enum-told4 .given .1)
 
--- src/lib.rt:90:5
 returns-6 : tie.Need-returns-6
 unfolding opened if_then_else_
 returns-6 c = rw (lt-leb _ _ (c .before .before .before .if1 .left), sym (c .before .before .entry .ensures) ∙ c .enum-told5 .given .1)

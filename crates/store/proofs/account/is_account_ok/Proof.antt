@@ -1,26 +1,18 @@
+-- `store::account::is_account_ok` meets its contract. Assumes nothing.
 use Rattle.store.specs.Account.{placesOk, accountOk}
 use borrow.Author.Needs.{needs}
 use Rattle.store.proofs.account.is_account_ok.Statement.{statement}
 use Rattle.store.proofs.account.is_account_ok.Tie as tie
-use Rattle.store.proofs.account.is_account_ok.Reads as reads
-use Rattle.store.proofs.account.is_account_ok.Lts as lts
-use Rattle.store.proofs.account.are_ids_apart.Reads as are-ids-apart-reads
-use Rattle.store.proofs.account.are_records_ok.Reads as are-records-ok-reads
-use Rattle.store.proofs.book.is_used_ok.Reads as is-used-ok-reads
 
--- src/account.rt:82:5
 is-used-ok-requires : tie.Need-is-used-ok-requires
 is-used-ok-requires c κs = search needs
 
--- src/account.rt:82:31
 are-records-ok-requires : tie.Need-are-records-ok-requires
 are-records-ok-requires c κs = search needs
 
--- src/account.rt:82:60
 are-ids-apart-requires : tie.Need-are-ids-apart-requires
 are-ids-apart-requires c κs = search needs
 
--- src/account.rt:78:1
 returns : tie.Need-returns
 unfolding placesOk accountOk
 returns c = rw (c .are-ids-apart .ensures, c .before .are-records-ok .ensures, c .before .before .is-used-ok .ensures)

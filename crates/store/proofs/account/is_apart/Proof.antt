@@ -1,38 +1,27 @@
+-- `store::account::is_apart` meets its contract. Assumes nothing.
 use borrow.Author.Tests.{eq-eqb, ne-eqb}
 use borrow.Author.Needs.{needs}
 use Rattle.store.proofs.account.is_apart.Statement.{statement}
 use Rattle.store.proofs.account.is_apart.Tie as tie
-use Rattle.store.proofs.account.is_apart.Reads as reads
-use Rattle.store.proofs.account.is_apart.Lts as lts
-use Rattle.octets.proofs.number.number_at.Reads as number-at-reads
-use Rattle.store.proofs.account.is_free_from.Reads as is-free-from-reads
-use Rattle.store.proofs.places.record_at.Reads as record-at-reads
 
--- src/account.rt:57:9
 record-at-requires : tie.Need-record-at-requires
 record-at-requires c κs = search needs
 
--- src/account.rt:58:8
 shared-slice-read-if1 : tie.Need-shared-slice-read-if1
 shared-slice-read-if1 c = search needs
 
--- src/account.rt:61:28
 add-is-free-from : tie.Need-add-is-free-from
 add-is-free-from c = search needs
 
--- src/account.rt:61:35
 number-at-requires : tie.Need-number-at-requires
 number-at-requires c κs = search needs
 
--- src/account.rt:61:9
 is-free-from-requires : tie.Need-is-free-from-requires
 is-free-from-requires c κs = search needs
 
--- src/account.rt:53:1
 returns : tie.Need-returns
 returns c = rw (← (c .before .before .record-at .ensures .0), eq-eqb _ _ (c .if1 .taken))
 
--- src/account.rt:53:1
 returns-2 : tie.Need-returns-2
 returns-2 c = rw (← (c .before .before .before .before .record-at .ensures .0), ne-eqb _ _ (c .before .before .if1 .left), ← (c .before .number-at .ensures)) (c .is-free-from .ensures)
 

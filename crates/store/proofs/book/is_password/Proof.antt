@@ -1,33 +1,24 @@
+-- `store::book::is_password` meets its contract. Assumes nothing.
 use Rattle.store.specs.Book.{passwordIs}
 use borrow.Author.Needs.{needs}
 use Rattle.store.proofs.book.is_password.Statement.{statement}
 use Rattle.store.proofs.book.is_password.Tie as tie
-use Rattle.store.proofs.book.is_password.Reads as reads
-use Rattle.store.proofs.book.is_password.Lts as lts
-use Rattle.forms.proofs.field.text_of.Reads as text-of-reads
-use Rattle.octets.proofs.stretch.is_same.Reads as is-same-reads
 
--- src/book.rt:55:45
 sub-text-of : tie.Need-sub-text-of
 sub-text-of c = search needs
 
--- src/book.rt:55:45
 part-text-of-start : tie.Need-part-text-of-start
 part-text-of-start c = search needs
 
--- src/book.rt:55:45
 part-text-of-end : tie.Need-part-text-of-end
 part-text-of-end c = search needs
 
--- src/book.rt:55:30
 text-of-requires : tie.Need-text-of-requires
 text-of-requires c κs = search needs
 
--- src/book.rt:55:5
 is-same-requires : tie.Need-is-same-requires
 is-same-requires c κs = search needs
 
--- src/book.rt:51:1
 returns : tie.Need-returns
 unfolding passwordIs
 returns c = rw (← (c .before .text-of .ensures)) (c .is-same .ensures)

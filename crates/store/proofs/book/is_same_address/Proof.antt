@@ -1,16 +1,12 @@
+-- `store::book::is_same_address` meets its contract. Assumes nothing.
 use Rattle.store.specs.Book.{sameAddress}
 use borrow.Author.Needs.{needs}
 use Rattle.store.proofs.book.is_same_address.Statement.{statement}
 use Rattle.store.proofs.book.is_same_address.Tie as tie
-use Rattle.store.proofs.book.is_same_address.Reads as reads
-use Rattle.store.proofs.book.is_same_address.Lts as lts
-use Rattle.octets.proofs.stretch.is_same.Reads as is-same-reads
 
--- src/book.rt:38:5
 is-same-requires : tie.Need-is-same-requires
 is-same-requires c κs = search needs
 
--- src/book.rt:35:1
 returns : tie.Need-returns
 unfolding sameAddress
 returns c = c .is-same .ensures

@@ -1,95 +1,70 @@
-use mathlib.Core.Path.{_∙_}
+-- `store::book::is_used_ok` meets its contract. Assumes nothing.
 use Rattle.store.specs.Book.{bookOk}
 use Rattle.store.proofs.RecordLaws.{used-book}
 use borrow.Author.Needs.{needs}
 use Rattle.store.proofs.book.is_used_ok.Statement.{statement}
 use Rattle.store.proofs.book.is_used_ok.Tie as tie
-use Rattle.store.proofs.book.is_used_ok.Reads as reads
-use Rattle.store.proofs.book.is_used_ok.Lts as lts
-use Rattle.octets.proofs.stretch.all_zero.Reads as all-zero-reads
-use Rattle.store.proofs.book.is_ended_text.Reads as is-ended-text-reads
 
--- src/book.rt:22:19
 sub-is-ended-text : tie.Need-sub-is-ended-text
 sub-is-ended-text c = search needs
 
--- src/book.rt:22:19
 part-is-ended-text-start : tie.Need-part-is-ended-text-start
 part-is-ended-text-start c = search needs
 
--- src/book.rt:22:19
 part-is-ended-text-end : tie.Need-part-is-ended-text-end
 part-is-ended-text-end c = search needs
 
--- src/book.rt:22:5
 is-ended-text-requires : tie.Need-is-ended-text-requires
 is-ended-text-requires c κs = search needs
 
--- src/book.rt:23:25
 sub-is-ended-text-2 : tie.Need-sub-is-ended-text-2
 sub-is-ended-text-2 c = search needs
 
--- src/book.rt:23:25
 part-is-ended-text-start-2 : tie.Need-part-is-ended-text-start-2
 part-is-ended-text-start-2 c = search needs
 
--- src/book.rt:23:25
 part-is-ended-text-end-2 : tie.Need-part-is-ended-text-end-2
 part-is-ended-text-end-2 c = search needs
 
--- src/book.rt:23:11
 is-ended-text-requires-2 : tie.Need-is-ended-text-requires-2
 is-ended-text-requires-2 c κs = search needs
 
--- src/book.rt:24:25
 sub-is-ended-text-3 : tie.Need-sub-is-ended-text-3
 sub-is-ended-text-3 c = search needs
 
--- src/book.rt:24:25
 part-is-ended-text-start-3 : tie.Need-part-is-ended-text-start-3
 part-is-ended-text-start-3 c = search needs
 
--- src/book.rt:24:25
 part-is-ended-text-end-3 : tie.Need-part-is-ended-text-end-3
 part-is-ended-text-end-3 c = search needs
 
--- src/book.rt:24:11
 is-ended-text-requires-3 : tie.Need-is-ended-text-requires-3
 is-ended-text-requires-3 c κs = search needs
 
--- src/book.rt:25:25
 sub-is-ended-text-4 : tie.Need-sub-is-ended-text-4
 sub-is-ended-text-4 c = search needs
 
--- src/book.rt:25:25
 part-is-ended-text-start-4 : tie.Need-part-is-ended-text-start-4
 part-is-ended-text-start-4 c = search needs
 
--- src/book.rt:25:25
 part-is-ended-text-end-4 : tie.Need-part-is-ended-text-end-4
 part-is-ended-text-end-4 c = search needs
 
--- src/book.rt:25:11
 is-ended-text-requires-4 : tie.Need-is-ended-text-requires-4
 is-ended-text-requires-4 c κs = search needs
 
--- src/book.rt:26:37
 sub-all-zero : tie.Need-sub-all-zero
 sub-all-zero c = search needs
 
--- src/book.rt:26:37
 part-all-zero-start : tie.Need-part-all-zero-start
 part-all-zero-start c = search needs
 
--- src/book.rt:26:37
 part-all-zero-end : tie.Need-part-all-zero-end
 part-all-zero-end c = search needs
 
--- src/book.rt:26:11
 all-zero-requires : tie.Need-all-zero-requires
 all-zero-requires c κs = search needs
 
--- src/book.rt:18:1
 returns : tie.Need-returns
 unfolding bookOk
 returns c = rw (c .all-zero .ensures, c .before .before .is-ended-text4 .ensures, c .before .before .before .before .is-ended-text3 .ensures, c .before .before .before .before .before .before .is-ended-text2 .ensures, c .before .before .before .before .before .before .before .before .is-ended-text .ensures) (used-book (c .before .before .before .before .before .before .before .before .before .before .before .args .b .now))

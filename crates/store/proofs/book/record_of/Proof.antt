@@ -1,3 +1,4 @@
+-- `store::book::record_of` meets its contract. Assumes nothing.
 use mathlib.Core.Path.{ap, _∙_}
 use Prim.Native.Nat.{_*_}
 use native.Mathlib.Omega.{arith}
@@ -6,30 +7,22 @@ use Rattle.octets.proofs.StretchLaws.{part-cut, part-length}
 use borrow.Author.Needs.{needs}
 use Rattle.store.proofs.book.record_of.Statement.{statement}
 use Rattle.store.proofs.book.record_of.Tie as tie
-use Rattle.store.proofs.book.record_of.Reads as reads
-use Rattle.store.proofs.book.record_of.Lts as lts
 
--- src/book.rt:14:14
 mul-at : tie.Need-mul-at
 mul-at c = search needs
 
--- src/book.rt:15:15
 add-result : tie.Need-add-result
 add-result c = search needs
 
--- src/book.rt:15:5
 sub-result : tie.Need-sub-result
 sub-result c = search needs
 
--- src/book.rt:15:5
 part-result-start : tie.Need-part-result-start
 part-result-start c = search needs
 
--- src/book.rt:15:5
 part-result-end : tie.Need-part-result-end
 part-result-end c = search needs
 
--- src/book.rt:10:1
 returns : tie.Need-returns
 returns c = let e = part-cut (64 * c .before .args .a) 64 (c .before .args .book .now) in (e, ap length e ∙ part-length (64 * c .before .args .a) 64 (c .before .args .book .now) (omega arith))
 

@@ -1,42 +1,32 @@
+-- `store::change::finish` meets its contract. Assumes nothing.
 use native.Mathlib.Omega.{arith}
 use Rattle.store.specs.Change.{finished}
 use Rattle.store.proofs.PlacesLaws.{lent-back}
 use borrow.Author.Needs.{needs}
 use Rattle.store.proofs.change.finish.Statement.{statement}
 use Rattle.store.proofs.change.finish.Tie as tie
-use Rattle.store.proofs.change.finish.Reads as reads
-use Rattle.store.proofs.change.finish.Lts as lts
-use Rattle.store.proofs.change.finish_record.Reads as finish-record-reads
 
--- src/change.rt:80:14
 mul-at : tie.Need-mul-at
 mul-at c = search needs
 
--- src/change.rt:81:33
 add-finish-record : tie.Need-add-finish-record
 add-finish-record c = search needs
 
--- src/change.rt:81:19
 sub-finish-record : tie.Need-sub-finish-record
 sub-finish-record c = search needs
 
--- src/change.rt:81:19
 part-finish-record-start : tie.Need-part-finish-record-start
 part-finish-record-start c = search needs
 
--- src/change.rt:81:19
 part-finish-record-end : tie.Need-part-finish-record-end
 part-finish-record-end c = search needs
 
--- src/change.rt:81:5
 finish-record-requires : tie.Need-finish-record-requires
 finish-record-requires c κs = search needs
 
--- src/change.rt:76:1
 same-length : tie.Need-same-length
 same-length c = search needs
 
--- src/change.rt:76:1
 returns : tie.Need-returns
 returns c = lent-back (finished (c .before .before .before .before .before .before .args .state) (c .before .before .before .before .before .before .args .error) (c .before .before .before .before .before .before .args .stamp .now)) (c .before .before .before .before .before .before .args .k) (c .before .before .before .before .before .before .args .part .now) (c .before .before .finish-record .last .0) (omega arith) (omega arith) (c .before .before .finish-record .ensures) (c .before .before .finish-record .kept .0)
 

@@ -1,36 +1,25 @@
+-- `store::change::finish_record` meets its contract. Assumes nothing.
 use mathlib.Core.List.{[], _∷_}
 use Rattle.store.proofs.ChangeLaws.{pieces2}
-use mathlib.Core.Path.{_∙_, ap}
-use Prim.Native.Nat.{ℕ}
 use native.Mathlib.Omega.{arith}
 use Rattle.octets.specs.Stretch.{patch}
-use Rattle.octets.proofs.PatchLaws.{patch-next}
 use Rattle.store.specs.Change.{finished}
 use borrow.Author.Needs.{needs}
 use Rattle.store.proofs.change.finish_record.Statement.{statement}
 use Rattle.store.proofs.change.finish_record.Tie as tie
-use Rattle.store.proofs.change.finish_record.Reads as reads
-use Rattle.store.proofs.change.finish_record.Lts as lts
-use Rattle.octets.proofs.stretch.put.Reads as put-reads
-use Rattle.store.proofs.change.put_octet.Reads as put-octet-reads
 
--- src/change.rt:70:5
 put-octet-requires : tie.Need-put-octet-requires
 put-octet-requires c κs = search needs
 
--- src/change.rt:71:5
 put-requires : tie.Need-put-requires
 put-requires c κs = search needs
 
--- src/change.rt:72:5
 put-octet-requires-2 : tie.Need-put-octet-requires-2
 put-octet-requires-2 c κs = search needs
 
--- src/change.rt:66:1
 same-length : tie.Need-same-length
 same-length c = search needs
 
--- src/change.rt:66:1
 returns : tie.Need-returns
 unfolding finished
 returns c = rw (c .before .before .put-octet2 .ensures, c .before .before .before .before .before .before .put .ensures, c .before .before .before .before .before .before .before .before .before .before .put-octet .ensures) (pieces2 (patch (c .before .before .before .before .before .before .before .before .before .before .before .before .before .before .args .r .now) 0 (c .before .before .before .before .before .before .before .before .before .before .before .before .before .before .args .state ∷ [])) 233 249 (c .before .before .before .before .before .before .before .before .before .before .before .before .before .before .args .stamp .now) (c .before .before .before .before .before .before .before .before .before .before .before .before .before .before .args .error ∷ []) (omega arith))

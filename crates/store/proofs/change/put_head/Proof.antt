@@ -1,44 +1,32 @@
-use mathlib.Core.Path.{_≡_, refl, ap, _∙_}
+-- `store::change::put_head` meets its contract. Assumes nothing.
+use mathlib.Core.Path.{refl}
 use mathlib.Core.List.{[], _∷_}
 use native.Mathlib.Omega.{arith}
-use lib.ListN.{length, length-append}
-use Rattle.octets.specs.Stretch.{patch}
+use lib.ListN.{length-append}
 use Rattle.octets.specs.Number.{octets4}
 use Rattle.store.proofs.ChangeLaws.{pieces2, pieces4}
 use borrow.Author.Needs.{needs}
 use Rattle.store.proofs.change.put_head.Statement.{statement}
 use Rattle.store.proofs.change.put_head.Tie as tie
-use Rattle.store.proofs.change.put_head.Reads as reads
-use Rattle.store.proofs.change.put_head.Lts as lts
-use Rattle.octets.proofs.number.put_number.Reads as put-number-reads
-use Rattle.octets.proofs.stretch.put.Reads as put-reads
-use Rattle.store.proofs.change.put_octet.Reads as put-octet-reads
 
--- src/change.rt:38:5
 put-octet-requires : tie.Need-put-octet-requires
 put-octet-requires c κs = search needs
 
--- src/change.rt:39:5
 put-number-requires : tie.Need-put-number-requires
 put-number-requires c κs = search needs
 
--- src/change.rt:40:5
 put-requires : tie.Need-put-requires
 put-requires c κs = search needs
 
--- src/change.rt:41:5
 put-requires-2 : tie.Need-put-requires-2
 put-requires-2 c κs = search needs
 
--- src/change.rt:42:5
 put-requires-3 : tie.Need-put-requires-3
 put-requires-3 c κs = search needs
 
--- src/change.rt:34:1
 same-length : tie.Need-same-length
 same-length c = search needs
 
--- src/change.rt:34:1
 returns : tie.Need-returns
 unfolding octets4
 returns c = (

@@ -1,36 +1,27 @@
+-- `store::change::put_message` meets its contract. Assumes nothing.
 use mathlib.Core.List.{[], _∷_}
 use native.Mathlib.Omega.{arith}
-use lib.ListN.{length, length-append}
+use lib.ListN.{length}
 use Rattle.store.proofs.ChangeLaws.{pieces3}
 use borrow.Author.Needs.{needs}
 use Rattle.store.proofs.change.put_message.Statement.{statement}
 use Rattle.store.proofs.change.put_message.Tie as tie
-use Rattle.store.proofs.change.put_message.Reads as reads
-use Rattle.store.proofs.change.put_message.Lts as lts
-use Rattle.octets.proofs.stretch.put.Reads as put-reads
-use Rattle.store.proofs.change.put_octet.Reads as put-octet-reads
 
--- src/change.rt:60:5
 put-requires : tie.Need-put-requires
 put-requires c κs = search needs
 
--- src/change.rt:61:22
 cast-put-octet : tie.Need-cast-put-octet
 cast-put-octet c = search needs
 
--- src/change.rt:61:5
 put-octet-requires : tie.Need-put-octet-requires
 put-octet-requires c κs = search needs
 
--- src/change.rt:62:5
 put-requires-2 : tie.Need-put-requires-2
 put-requires-2 c κs = search needs
 
--- src/change.rt:56:1
 same-length : tie.Need-same-length
 same-length c = search needs
 
--- src/change.rt:56:1
 returns : tie.Need-returns
 returns c = (
   rw (c .before .before .put2 .ensures, c .before .before .before .before .before .before .put-octet .ensures, c .before .before .before .before .before .before .before .before .before .before .put .ensures) (pieces3 (c .before .before .before .before .before .before .before .before .before .before .before .before .before .before .before .args .r .now) 89 92 93 (c .before .before .before .before .before .before .before .before .before .before .before .before .before .before .before .args .flags .now) (length (c .before .before .before .before .before .before .before .before .before .before .before .before .before .before .before .args .text .now) ∷ []) (c .before .before .before .before .before .before .before .before .before .before .before .before .before .before .before .args .text .now) (omega arith) (omega arith)),

@@ -1,4 +1,5 @@
-use mathlib.Core.Path.{_≡_, refl, ap, _∙_}
+-- `store::change::put_new` meets its contract. Assumes nothing.
+use mathlib.Core.Path.{refl, ap}
 use mathlib.Core.List.{[], _∷_}
 use Prim.Native.Nat.{_*_}
 use native.Mathlib.Omega.{arith}
@@ -8,54 +9,37 @@ use Rattle.store.proofs.ChangeLaws.{assembled}
 use borrow.Author.Needs.{needs}
 use Rattle.store.proofs.change.put_new.Statement.{statement}
 use Rattle.store.proofs.change.put_new.Tie as tie
-use Rattle.store.proofs.change.put_new.Reads as reads
-use Rattle.store.proofs.change.put_new.Lts as lts
-use Rattle.octets.proofs.stretch.put.Reads as put-reads
-use Rattle.store.proofs.change.put_head.Reads as put-head-reads
-use Rattle.store.proofs.change.put_message.Reads as put-message-reads
-use Rattle.store.proofs.change.put_terms.Reads as put-terms-reads
 
--- src/change.rt:77:14
 slice-aggregate-put-head : tie.Need-slice-aggregate-put-head
 slice-aggregate-put-head c = search needs
 
--- src/change.rt:77:5
 put-head-requires : tie.Need-put-head-requires
 put-head-requires c κs = search needs
 
--- src/change.rt:78:15
 slice-aggregate-put-terms : tie.Need-slice-aggregate-put-terms
 slice-aggregate-put-terms c = search needs
 
--- src/change.rt:78:5
 put-terms-requires : tie.Need-put-terms-requires
 put-terms-requires c κs = search needs
 
--- src/change.rt:79:17
 slice-aggregate-put-message : tie.Need-slice-aggregate-put-message
 slice-aggregate-put-message c = search needs
 
--- src/change.rt:79:5
 put-message-requires : tie.Need-put-message-requires
 put-message-requires c κs = search needs
 
--- src/change.rt:80:32
 mul-put : tie.Need-mul-put
 mul-put c = search needs
 
--- src/change.rt:80:57
 slice-aggregate-put : tie.Need-slice-aggregate-put
 slice-aggregate-put c = search needs
 
--- src/change.rt:80:5
 put-requires : tie.Need-put-requires
 put-requires c κs = search needs
 
--- src/change.rt:66:1
 same-length : tie.Need-same-length
 same-length c = search needs
 
--- src/change.rt:66:1
 returns : tie.Need-returns
 unfolding newRecord
 returns c = rw (c .before .before .put .ensures, c .before .before .before .before .before .before .put-message .ensures .0, c .before .before .before .before .before .before .before .before .before .before .put-terms .ensures .0, c .before .before .before .before .before .before .before .before .before .before .before .before .before .before .before .before .put-head .ensures .0) (ap (patch (c .before .before .before .before .before .before .before .before .before .before .before .before .before .before .before .before .before .before .before .before .before .before .before .before .before .before .before .args .part .now) (256 * c .before .before .before .before .before .before .before .before .before .before .before .before .before .before .before .before .before .before .before .before .before .before .before .before .before .before .before .args .k)) (assembled (c .before .before .before .before .before .before .before .before .before .before .before .before .before .before .before .before .before .before .before .before .before .before .before .before .before .before .before .args .id) (c .before .before .before .before .before .before .before .before .before .before .before .before .before .before .before .before .before .before .before .before .before .before .before .before .before .before .before .args .f) (c .before .before .before .before .before .before .before .before .before .before .before .before .before .before .before .before .before .before .before .before .before .before .before .before .before .before .before .args .service .now) (c .before .before .before .before .before .before .before .before .before .before .before .before .before .before .before .before .before .before .before .before .before .before .before .before .before .before .before .args .text .now) (c .before .before .before .before .before .before .before .before .before .before .before .before .before .before .before .before .before .before .before .before .before .before .before .before .before .before .before .args .f .esm ∷ c .before .before .before .before .before .before .before .before .before .before .before .before .before .before .before .before .before .before .before .before .before .before .before .before .before .before .before .args .f .protocol ∷ c .before .before .before .before .before .before .before .before .before .before .before .before .before .before .before .before .before .before .before .before .before .before .before .before .before .before .before .args .f .priority ∷ []) (c .before .before .before .before .before .before .before .before .before .before .before .before .before .before .before .before .before .before .before .before .before .before .before .before .before .before .before .args .f .registered ∷ c .before .before .before .before .before .before .before .before .before .before .before .before .before .before .before .before .before .before .before .before .before .before .before .before .before .before .before .args .f .coding ∷ c .before .before .before .before .before .before .before .before .before .before .before .before .before .before .before .before .before .before .before .before .before .before .before .before .before .before .before .args .f .default ∷ []) (c .before .before .before .before .before .before .before .before .before .before .before .before .before .before .before .before .put-head .ensures .1) (omega arith) (c .before .before .before .before .before .before .before .before .before .before .put-terms .ensures .1) refl (omega arith)))

@@ -1,30 +1,23 @@
+-- `store::change::put_terms` meets its contract. Assumes nothing.
 use native.Mathlib.Omega.{arith}
 use lib.ListN.{length-append}
 use Rattle.store.proofs.ChangeLaws.{pieces3}
 use borrow.Author.Needs.{needs}
 use Rattle.store.proofs.change.put_terms.Statement.{statement}
 use Rattle.store.proofs.change.put_terms.Tie as tie
-use Rattle.store.proofs.change.put_terms.Reads as reads
-use Rattle.store.proofs.change.put_terms.Lts as lts
-use Rattle.octets.proofs.stretch.put.Reads as put-reads
 
--- src/change.rt:50:5
 put-requires : tie.Need-put-requires
 put-requires c κs = search needs
 
--- src/change.rt:51:5
 put-requires-2 : tie.Need-put-requires-2
 put-requires-2 c κs = search needs
 
--- src/change.rt:52:5
 put-requires-3 : tie.Need-put-requires-3
 put-requires-3 c κs = search needs
 
--- src/change.rt:46:1
 same-length : tie.Need-same-length
 same-length c = search needs
 
--- src/change.rt:46:1
 returns : tie.Need-returns
 returns c = (
   rw (c .before .before .put3 .ensures, c .before .before .before .before .before .before .before .put2 .ensures, c .before .before .before .before .before .before .before .before .before .before .before .before .put .ensures) (pieces3 (c .before .before .before .before .before .before .before .before .before .before .before .before .before .before .before .before .args .r .now) 54 57 73 (c .before .before .before .before .before .before .before .before .before .before .before .before .before .before .before .before .args .flags .now) (c .before .before .before .before .before .before .before .before .before .before .before .before .before .before .before .before .args .schedule .now) (c .before .before .before .before .before .before .before .before .before .before .before .before .before .before .before .before .args .validity .now) (omega arith) (omega arith)),

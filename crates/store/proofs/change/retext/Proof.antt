@@ -1,42 +1,32 @@
+-- `store::change::retext` meets its contract. Assumes nothing.
 use native.Mathlib.Omega.{arith}
 use Rattle.store.specs.Change.{retexted}
 use Rattle.store.proofs.PlacesLaws.{lent-back}
 use borrow.Author.Needs.{needs}
 use Rattle.store.proofs.change.retext.Statement.{statement}
 use Rattle.store.proofs.change.retext.Tie as tie
-use Rattle.store.proofs.change.retext.Reads as reads
-use Rattle.store.proofs.change.retext.Lts as lts
-use Rattle.store.proofs.change.retext_record.Reads as retext-record-reads
 
--- src/change.rt:101:14
 mul-at : tie.Need-mul-at
 mul-at c = search needs
 
--- src/change.rt:102:33
 add-retext-record : tie.Need-add-retext-record
 add-retext-record c = search needs
 
--- src/change.rt:102:19
 sub-retext-record : tie.Need-sub-retext-record
 sub-retext-record c = search needs
 
--- src/change.rt:102:19
 part-retext-record-start : tie.Need-part-retext-record-start
 part-retext-record-start c = search needs
 
--- src/change.rt:102:19
 part-retext-record-end : tie.Need-part-retext-record-end
 part-retext-record-end c = search needs
 
--- src/change.rt:102:5
 retext-record-requires : tie.Need-retext-record-requires
 retext-record-requires c κs = search needs
 
--- src/change.rt:97:1
 same-length : tie.Need-same-length
 same-length c = search needs
 
--- src/change.rt:97:1
 returns : tie.Need-returns
 returns c = lent-back (retexted (c .before .before .before .before .before .before .args .default) (c .before .before .before .before .before .before .args .text .now)) (c .before .before .before .before .before .before .args .k) (c .before .before .before .before .before .before .args .part .now) (c .before .before .retext-record .last .0) (omega arith) (omega arith) (c .before .before .retext-record .ensures) (c .before .before .retext-record .kept .0)
 

@@ -1,3 +1,4 @@
+-- `store::change::retext_record` meets its contract. Assumes nothing.
 use mathlib.Core.Path.{refl}
 use mathlib.Core.List.{[], _∷_}
 use native.Mathlib.Omega.{arith}
@@ -9,43 +10,31 @@ use Rattle.store.proofs.ChangeLaws.{pieces2}
 use borrow.Author.Needs.{needs}
 use Rattle.store.proofs.change.retext_record.Statement.{statement}
 use Rattle.store.proofs.change.retext_record.Tie as tie
-use Rattle.store.proofs.change.retext_record.Reads as reads
-use Rattle.store.proofs.change.retext_record.Lts as lts
-use Rattle.octets.proofs.stretch.put.Reads as put-reads
 
--- src/change.rt:89:27
 cast-t7 : tie.Need-cast-t7
 cast-t7 c = search needs
 
--- src/change.rt:91:26
 slice-aggregate-put : tie.Need-slice-aggregate-put
 slice-aggregate-put c = search needs
 
--- src/change.rt:91:5
 put-requires : tie.Need-put-requires
 put-requires c κs = search needs
 
--- src/change.rt:92:33
 slice-aggregate-put-2 : tie.Need-slice-aggregate-put-2
 slice-aggregate-put-2 c = search needs
 
--- src/change.rt:92:5
 put-requires-2 : tie.Need-put-requires-2
 put-requires-2 c κs = search needs
 
--- src/change.rt:93:33
 slice-aggregate-put-3 : tie.Need-slice-aggregate-put-3
 slice-aggregate-put-3 c = search needs
 
--- src/change.rt:93:5
 put-requires-3 : tie.Need-put-requires-3
 put-requires-3 c κs = search needs
 
--- src/change.rt:85:1
 same-length : tie.Need-same-length
 same-length c = search needs
 
--- src/change.rt:85:1
 returns : tie.Need-returns
 unfolding retexted
 returns c = rw (c .before .before .put3 .ensures, c .before .before .before .before .before .before .before .put2 .ensures, c .before .before .before .before .before .before .before .before .before .before .before .put .ensures, patch-zeros 140 (c .before .before .before .before .before .before .before .before .before .before .before .before .before .before .before .args .text .now) (omega arith)) (pieces2 (c .before .before .before .before .before .before .before .before .before .before .before .before .before .before .before .args .r .now) 91 93 (c .before .before .before .before .before .before .before .before .before .before .before .before .before .before .before .args .default ∷ length (c .before .before .before .before .before .before .before .before .before .before .before .before .before .before .before .args .text .now) ∷ []) (padded 140 (c .before .before .before .before .before .before .before .before .before .before .before .before .before .before .before .args .text .now)) refl)

@@ -1,32 +1,24 @@
+-- `store::change::retime` meets its contract. Assumes nothing.
 use borrow.Author.Tests.{not-true, not-false}
 use mathlib.Core.Path.{sym, _∙_}
 use Rattle.octets.specs.Choice.{if_then_else_}
 use borrow.Author.Needs.{needs}
 use Rattle.store.proofs.change.retime.Statement.{statement}
 use Rattle.store.proofs.change.retime.Tie as tie
-use Rattle.store.proofs.change.retime.Reads as reads
-use Rattle.store.proofs.change.retime.Lts as lts
-use Rattle.octets.proofs.stretch.all_zero.Reads as all-zero-reads
-use Rattle.octets.proofs.stretch.put.Reads as put-reads
 
--- src/change.rt:126:9
 all-zero-requires : tie.Need-all-zero-requires
 all-zero-requires c κs = search needs
 
--- src/change.rt:127:9
 put-requires : tie.Need-put-requires
 put-requires c κs = search needs
 
--- src/change.rt:122:1
 same-length : tie.Need-same-length
 same-length c = search needs
 
--- src/change.rt:122:1
 returns : tie.Need-returns
 unfolding if_then_else_
 returns c = rw (sym (c .before .before .before .before .before .before .all-zero .ensures) ∙ not-true _ (c .before .before .before .before .before .if1 .taken)) (c .before .before .put .ensures)
 
--- src/change.rt:122:1
 returns-2 : tie.Need-returns-2
 unfolding if_then_else_
 returns-2 c = rw (sym (c .before .all-zero .ensures) ∙ not-false _ (c .if1 .left))

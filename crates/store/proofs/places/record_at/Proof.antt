@@ -1,3 +1,4 @@
+-- `store::places::record_at` meets its contract. Assumes nothing.
 use mathlib.Core.Path.{ap, _∙_}
 use Prim.Native.Nat.{_*_}
 use native.Mathlib.Omega.{arith}
@@ -6,30 +7,22 @@ use Rattle.octets.proofs.StretchLaws.{part-cut, part-length}
 use borrow.Author.Needs.{needs}
 use Rattle.store.proofs.places.record_at.Statement.{statement}
 use Rattle.store.proofs.places.record_at.Tie as tie
-use Rattle.store.proofs.places.record_at.Reads as reads
-use Rattle.store.proofs.places.record_at.Lts as lts
 
--- src/places.rt:51:14
 mul-at : tie.Need-mul-at
 mul-at c = search needs
 
--- src/places.rt:52:15
 add-result : tie.Need-add-result
 add-result c = search needs
 
--- src/places.rt:52:5
 sub-result : tie.Need-sub-result
 sub-result c = search needs
 
--- src/places.rt:52:5
 part-result-start : tie.Need-part-result-start
 part-result-start c = search needs
 
--- src/places.rt:52:5
 part-result-end : tie.Need-part-result-end
 part-result-end c = search needs
 
--- src/places.rt:47:1
 returns : tie.Need-returns
 returns c = let e = part-cut (256 * c .before .args .k) 256 (c .before .args .part .now) in (e, ap length e ∙ part-length (256 * c .before .args .k) 256 (c .before .args .part .now) (omega arith))
 

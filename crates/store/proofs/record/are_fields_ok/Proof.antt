@@ -1,107 +1,78 @@
+-- `store::record::are_fields_ok` meets its contract. Assumes nothing.
 use Rattle.store.specs.Record.{fieldsOk}
 use borrow.Author.Needs.{needs}
 use Rattle.store.proofs.record.are_fields_ok.Statement.{statement}
 use Rattle.store.proofs.record.are_fields_ok.Tie as tie
-use Rattle.store.proofs.record.are_fields_ok.Reads as reads
-use Rattle.store.proofs.record.are_fields_ok.Lts as lts
-use Rattle.forms.proofs.field.is_field.Reads as is-field-reads
-use Rattle.store.proofs.record.is_address_ok.Reads as is-address-ok-reads
-use Rattle.store.proofs.record.is_text_ok.Reads as is-text-ok-reads
-use Rattle.store.proofs.record.is_time_ok.Reads as is-time-ok-reads
 
--- src/record.rt:43:19
 sub-is-address-ok : tie.Need-sub-is-address-ok
 sub-is-address-ok c = search needs
 
--- src/record.rt:43:19
 part-is-address-ok-start : tie.Need-part-is-address-ok-start
 part-is-address-ok-start c = search needs
 
--- src/record.rt:43:19
 part-is-address-ok-end : tie.Need-part-is-address-ok-end
 part-is-address-ok-end c = search needs
 
--- src/record.rt:43:5
 is-address-ok-requires : tie.Need-is-address-ok-requires
 is-address-ok-requires c κs = search needs
 
--- src/record.rt:44:25
 sub-is-address-ok-2 : tie.Need-sub-is-address-ok-2
 sub-is-address-ok-2 c = search needs
 
--- src/record.rt:44:25
 part-is-address-ok-start-2 : tie.Need-part-is-address-ok-start-2
 part-is-address-ok-start-2 c = search needs
 
--- src/record.rt:44:25
 part-is-address-ok-end-2 : tie.Need-part-is-address-ok-end-2
 part-is-address-ok-end-2 c = search needs
 
--- src/record.rt:44:11
 is-address-ok-requires-2 : tie.Need-is-address-ok-requires-2
 is-address-ok-requires-2 c κs = search needs
 
--- src/record.rt:45:27
 sub-is-field : tie.Need-sub-is-field
 sub-is-field c = search needs
 
--- src/record.rt:45:27
 part-is-field-start : tie.Need-part-is-field-start
 part-is-field-start c = search needs
 
--- src/record.rt:45:27
 part-is-field-end : tie.Need-part-is-field-end
 part-is-field-end c = search needs
 
--- src/record.rt:45:11
 is-field-requires : tie.Need-is-field-requires
 is-field-requires c κs = search needs
 
--- src/record.rt:46:12
 shared-slice-read-result : tie.Need-shared-slice-read-result
 shared-slice-read-result c = search needs
 
--- src/record.rt:47:22
 sub-is-time-ok : tie.Need-sub-is-time-ok
 sub-is-time-ok c = search needs
 
--- src/record.rt:47:22
 part-is-time-ok-start : tie.Need-part-is-time-ok-start
 part-is-time-ok-start c = search needs
 
--- src/record.rt:47:22
 part-is-time-ok-end : tie.Need-part-is-time-ok-end
 part-is-time-ok-end c = search needs
 
--- src/record.rt:47:11
 is-time-ok-requires : tie.Need-is-time-ok-requires
 is-time-ok-requires c κs = search needs
 
--- src/record.rt:48:22
 sub-is-time-ok-2 : tie.Need-sub-is-time-ok-2
 sub-is-time-ok-2 c = search needs
 
--- src/record.rt:48:22
 part-is-time-ok-start-2 : tie.Need-part-is-time-ok-start-2
 part-is-time-ok-start-2 c = search needs
 
--- src/record.rt:48:22
 part-is-time-ok-end-2 : tie.Need-part-is-time-ok-end-2
 part-is-time-ok-end-2 c = search needs
 
--- src/record.rt:48:11
 is-time-ok-requires-2 : tie.Need-is-time-ok-requires-2
 is-time-ok-requires-2 c κs = search needs
 
--- src/record.rt:49:12
 shared-slice-read-result-2 : tie.Need-shared-slice-read-result-2
 shared-slice-read-result-2 c = search needs
 
--- src/record.rt:50:11
 is-text-ok-requires : tie.Need-is-text-ok-requires
 is-text-ok-requires c κs = search needs
 
--- src/record.rt:39:1
 returns : tie.Need-returns
 unfolding fieldsOk
 returns c = rw (c .is-text-ok .ensures, c .before .before .is-time-ok2 .ensures, c .before .before .before .before .is-time-ok .ensures, c .before .before .before .before .before .before .before .is-field .ensures, c .before .before .before .before .before .before .before .before .before .is-address-ok2 .ensures, c .before .before .before .before .before .before .before .before .before .before .before .is-address-ok .ensures)

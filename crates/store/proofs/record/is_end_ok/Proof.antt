@@ -1,60 +1,45 @@
+-- `store::record::is_end_ok` meets its contract. Assumes nothing.
 use borrow.Author.Tests.{eq-eqb, ne-eqb}
 use Rattle.octets.specs.Choice.{if_then_else_}
 use Rattle.store.specs.Record.{endOk}
 use borrow.Author.Needs.{needs}
 use Rattle.store.proofs.record.is_end_ok.Statement.{statement}
 use Rattle.store.proofs.record.is_end_ok.Tie as tie
-use Rattle.store.proofs.record.is_end_ok.Reads as reads
-use Rattle.store.proofs.record.is_end_ok.Lts as lts
-use Rattle.forms.proofs.time.is_stored_time.Reads as is-stored-time-reads
-use Rattle.octets.proofs.stretch.all_zero.Reads as all-zero-reads
 
--- src/record.rt:57:17
 shared-slice-read-state : tie.Need-shared-slice-read-state
 shared-slice-read-state c = search needs
 
--- src/record.rt:58:23
 shared-slice-read-error-fits : tie.Need-shared-slice-read-error-fits
 shared-slice-read-error-fits c = search needs
 
--- src/record.rt:60:35
 sub-all-zero : tie.Need-sub-all-zero
 sub-all-zero c = search needs
 
--- src/record.rt:60:35
 part-all-zero-start : tie.Need-part-all-zero-start
 part-all-zero-start c = search needs
 
--- src/record.rt:60:35
 part-all-zero-end : tie.Need-part-all-zero-end
 part-all-zero-end c = search needs
 
--- src/record.rt:60:9
 all-zero-requires : tie.Need-all-zero-requires
 all-zero-requires c κs = search needs
 
--- src/record.rt:62:37
 sub-is-stored-time : tie.Need-sub-is-stored-time
 sub-is-stored-time c = search needs
 
--- src/record.rt:62:37
 part-is-stored-time-start : tie.Need-part-is-stored-time-start
 part-is-stored-time-start c = search needs
 
--- src/record.rt:62:37
 part-is-stored-time-end : tie.Need-part-is-stored-time-end
 part-is-stored-time-end c = search needs
 
--- src/record.rt:62:9
 is-stored-time-requires : tie.Need-is-stored-time-requires
 is-stored-time-requires c κs = search needs
 
--- src/record.rt:53:1
 returns : tie.Need-returns
 unfolding endOk if_then_else_
 returns c = simp (eq-eqb _ _ (c .before .before .if1 .taken), c .all-zero .ensures)
 
--- src/record.rt:53:1
 returns-2 : tie.Need-returns-2
 unfolding endOk if_then_else_
 returns-2 c = simp (ne-eqb _ _ (c .before .before .if1 .left), c .is-stored-time .ensures)

@@ -1,31 +1,23 @@
+-- `store::record::is_record_ok` meets its contract. Assumes nothing.
 use mathlib.Core.Path.{_∙_}
 use native.Mathlib.Omega.{arith}
 use Rattle.store.proofs.RecordLaws.{record-empty, record-message}
 use borrow.Author.Needs.{needs}
 use Rattle.store.proofs.record.is_record_ok.Statement.{statement}
 use Rattle.store.proofs.record.is_record_ok.Tie as tie
-use Rattle.store.proofs.record.is_record_ok.Reads as reads
-use Rattle.store.proofs.record.is_record_ok.Lts as lts
-use Rattle.octets.proofs.stretch.all_zero.Reads as all-zero-reads
-use Rattle.store.proofs.record.is_message_ok.Reads as is-message-ok-reads
 
--- src/record.rt:82:8
 shared-slice-read-if1 : tie.Need-shared-slice-read-if1
 shared-slice-read-if1 c = search needs
 
--- src/record.rt:83:9
 all-zero-requires : tie.Need-all-zero-requires
 all-zero-requires c κs = search needs
 
--- src/record.rt:85:9
 is-message-ok-requires : tie.Need-is-message-ok-requires
 is-message-ok-requires c κs = search needs
 
--- src/record.rt:78:1
 returns : tie.Need-returns
 returns c = c .all-zero .ensures ∙ record-empty (c .before .before .before .before .args .last) (c .before .before .before .before .args .r .now) (c .before .if1 .taken)
 
--- src/record.rt:78:1
 returns-2 : tie.Need-returns-2
 returns-2 c = c .is-message-ok .ensures ∙ record-message (c .before .before .before .before .args .last) (c .before .before .before .before .args .r .now) (omega arith) (c .before .if1 .left)
 

@@ -1,22 +1,17 @@
+-- `store::search::better_named` meets its contract. Assumes nothing.
 use Rattle.octets.specs.Choice.{if_then_else_}
 use Rattle.store.specs.Places.{keep}
 use borrow.Author.Needs.{needs}
 use Rattle.store.proofs.search.better_named.Statement.{statement}
 use Rattle.store.proofs.search.better_named.Tie as tie
-use Rattle.store.proofs.search.better_named.Reads as reads
-use Rattle.store.proofs.search.better_named.Lts as lts
-use Rattle.store.proofs.book.is_named.Reads as is-named-reads
 
--- src/search.rt:152:8
 is-named-requires : tie.Need-is-named-requires
 is-named-requires c κs = search needs
 
--- src/search.rt:148:1
 returns : tie.Need-returns
 unfolding keep if_then_else_
 returns c = rw (← (c .before .before .before .is-named .ensures), c .if1 .taken)
 
--- src/search.rt:148:1
 returns-2 : tie.Need-returns-2
 unfolding keep if_then_else_
 returns-2 c = rw (← (c .before .before .before .is-named .ensures), c .if1 .left)

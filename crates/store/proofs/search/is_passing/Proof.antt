@@ -1,65 +1,49 @@
+-- `store::search::is_passing` meets its contract. Assumes nothing.
 use Rattle.store.specs.Search.{passes}
 use borrow.Author.Needs.{needs}
 use Rattle.store.proofs.search.is_passing.Statement.{statement}
 use Rattle.store.proofs.search.is_passing.Tie as tie
-use Rattle.store.proofs.search.is_passing.Reads as reads
-use Rattle.store.proofs.search.is_passing.Lts as lts
-use Rattle.octets.proofs.number.number_at.Reads as number-at-reads
-use Rattle.store.proofs.search.is_pair.Reads as is-pair-reads
 
--- src/search.rt:36:17
 shared-slice-read-state : tie.Need-shared-slice-read-state
 shared-slice-read-state c = search needs
 
--- src/search.rt:38:20
 enum-known-search : tie.Need-enum-known-search
 enum-known-search c = search needs
 
--- src/search.rt:38:43
 number-at-requires : tie.Need-number-at-requires
 number-at-requires c κs = search needs
 
--- src/search.rt:39:25
 enum-told : tie.Need-enum-told
 enum-told c = search needs
 
--- src/search.rt:39:25
 is-pair-requires : tie.Need-is-pair-requires
 is-pair-requires c κs = search needs
 
--- src/search.rt:40:26
 enum-told-2 : tie.Need-enum-told-2
 enum-told-2 c = search needs
 
--- src/search.rt:41:30
 enum-told-3 : tie.Need-enum-told-3
 enum-told-3 c = search needs
 
--- src/search.rt:42:26
 enum-told-4 : tie.Need-enum-told-4
 enum-told-4 c = search needs
 
--- src/search.rt:32:1
 returns : tie.Need-returns
 unfolding passes
 returns c = rw (c .before .before .search .given .1, c .number-at .ensures)
 
--- src/search.rt:32:1
 returns-2 : tie.Need-returns-2
 unfolding passes
 returns-2 c = rw (c .before .enum-told .given .1) (c .is-pair .ensures)
 
--- src/search.rt:32:1
 returns-3 : tie.Need-returns-3
 unfolding passes
 returns-3 c = rw (c .enum-told2 .given .1)
 
--- src/search.rt:32:1
 returns-4 : tie.Need-returns-4
 unfolding passes
 returns-4 c = rw (c .enum-told3 .given .1)
 
--- src/search.rt:32:1
 returns-5 : tie.Need-returns-5
 unfolding passes
 returns-5 c = rw (c .enum-told4 .given .1)

@@ -1,5 +1,5 @@
 -- `store::search::lowest_of` meets its contract: the best so far, carried over the places to come, is the best of all. Assumes nothing.
-use mathlib.Core.Path.{_≡_, refl, sym, ap, _∙_, subst}
+use mathlib.Core.Path.{_≡_, sym, ap, _∙_, subst}
 use Prim.Native.Nat.{_≤_, _-_}
 use native.Mathlib.Omega.{arith}
 use Rattle.store.specs.Places.{records, OnePlace, over, none, keep, foundOf, lowest}
@@ -8,12 +8,6 @@ use Rattle.store.proofs.PlacesLaws.{from, over-next, over-last, lowest-
 use borrow.Author.Needs.{needs}
 use Rattle.store.proofs.search.lowest_of.Statement.{statement}
 use Rattle.store.proofs.search.lowest_of.Tie as tie
-use Rattle.store.proofs.search.lowest_of.Reads as reads
-use Rattle.store.proofs.search.lowest_of.Lts as lts
-use Rattle.store.proofs.places.Best.found_at.Reads as found-at-reads
-use Rattle.store.proofs.places.Best.none.Reads as none-reads
-use Rattle.store.proofs.places.record_at.Reads as record-at-reads
-use Rattle.store.proofs.search.better.Reads as better-reads
 
 abbrev Inv-loop : tie.InvT-loop
 Inv-loop part search source destination best₀ k₀ best k = (k ≤ 16) × (over (keep (passes search source destination) (rankOf search)) none 0 (records part) ≡ over (keep (passes search source destination) (rankOf search)) best k (from k part))
@@ -21,42 +15,33 @@ Inv-loop part search source destination best₀ k₀ best k = (k ≤ 16) × (ove
 abbrev μ-loop : tie.MeasureT-loop
 μ-loop part search source destination best₀ k₀ best k = 16 - k
 
--- src/search.rt:91:9
 none-requires : tie.Need-none-requires Inv-loop μ-loop
 none-requires c κs = search needs
 
--- src/search.rt:93:5
 loop-holds : tie.Need-loop-holds Inv-loop μ-loop
 loop-holds c = (omega arith, rw (c .none .ensures))
 
--- src/search.rt:94:32
 record-at-requires : tie.Need-record-at-requires Inv-loop μ-loop
 record-at-requires c κs = omega arith
 
--- src/search.rt:94:9
 better-requires : tie.Need-better-requires Inv-loop μ-loop
 better-requires c κs = c .record-at .ensures .1
 
--- src/search.rt:95:9
 add-k : tie.Need-add-k Inv-loop μ-loop
 add-k c = omega arith
 
--- src/search.rt:93:5
 loop-less : tie.Need-loop-less Inv-loop μ-loop
 loop-less c = omega arith
 
--- src/search.rt:93:5
 loop-again : tie.Need-loop-again Inv-loop μ-loop
 loop-again c = (
   omega arith,
   c .before .before .before .loop .inv .1 ∙ over-next 256 16 (c .before .before .before .loop .k) (c .before .before .before .before .before .before .before .before .args .part .now) (keep (passes (c .before .before .before .before .before .before .before .before .args .search) (c .before .before .before .before .before .before .before .before .args .source .now) (c .before .before .before .before .before .before .before .before .args .destination .now)) (rankOf (c .before .before .before .before .before .before .before .before .args .search))) (c .before .before .before .loop .best) _ (c .before .before .loop-test .taken) (rw (c .before .record-at .ensures .0) at (c .better .ensures)),
 )
 
--- src/search.rt:97:5
 found-at-requires : tie.Need-found-at-requires Inv-loop μ-loop
 found-at-requires c κs = search needs
 
--- src/search.rt:87:1
 returns : tie.Need-returns Inv-loop μ-loop
 unfolding lowest
 returns c = let p = passes (c .before .before .before .before .before .before .before .args .search) (c .before .before .before .before .before .before .before .args .source .now) (c .before .before .before .before .before .before .before .args .destination .now) in

@@ -1,5 +1,6 @@
+-- `wire::fields::read_address` meets its contract. Assumes nothing.
 use denote.Ref.{now}
-use mathlib.Core.Path.{_≡_, ap}
+use mathlib.Core.Path.{ap}
 use Prim.Native.Nat.{_≤_}
 use native.Mathlib.Omega.{arith}
 use lib.ListN.{length, length-take}
@@ -8,46 +9,31 @@ use Rattle.wire.proofs.FieldLaws.{address-padded}
 use borrow.Author.Needs.{needs}
 use Rattle.wire.proofs.fields.read_address.Statement.{statement}
 use Rattle.wire.proofs.fields.read_address.Tie as tie
-use Rattle.wire.proofs.fields.read_address.Reads as reads
-use Rattle.wire.proofs.fields.read_address.Lts as lts
-use Rattle.octets.proofs.stretch.put.Reads as put-reads
-use Rattle.wire.proofs.fields.octets_of.Reads as octets-of-reads
-use Rattle.wire.proofs.fields.read_octet.Reads as read-octet-reads
-use Rattle.wire.proofs.fields.read_text.Reads as read-text-reads
 
--- src/fields.rt:123:9
 read-octet-requires : tie.Need-read-octet-requires
 read-octet-requires c κs = search needs
 
--- src/fields.rt:125:9
 read-octet-requires-2 : tie.Need-read-octet-requires-2
 read-octet-requires-2 c κs = search needs
 
--- src/fields.rt:127:9
 read-text-requires : tie.Need-read-text-requires
 read-text-requires c κs = search needs
 
--- src/fields.rt:131:5
 array-write-octets : tie.Need-array-write-octets
 array-write-octets c = search needs
 
--- src/fields.rt:132:5
 array-write-octets-2 : tie.Need-array-write-octets-2
 array-write-octets-2 c = search needs
 
--- src/fields.rt:133:26
 slice-aggregate-put : tie.Need-slice-aggregate-put
 slice-aggregate-put c = search needs
 
--- src/fields.rt:133:42
 octets-of-requires : tie.Need-octets-of-requires
 octets-of-requires c κs = search needs
 
--- src/fields.rt:133:5
 put-requires : tie.Need-put-requires
 put-requires c κs = omega (arith, simp length-take at (ap length (c .octets-of .ensures)))
 
--- src/fields.rt:120:1
 returns : tie.Need-returns
 unfolding addressAt
 returns c = let fits : length (now (c .before .before .octets-of .result)) ≤ 20 = omega (arith, simp length-take at (ap length (c .before .before .octets-of .ensures))) in

@@ -1,3 +1,4 @@
+-- `wire::fields::read_span` meets its contract. Assumes nothing.
 use mathlib.Core.Path.{ap}
 use native.Mathlib.Omega.{arith}
 use lib.ListN.{length, length-drop}
@@ -7,52 +8,37 @@ use Rattle.wire.specs.Fields.{spanAt}
 use borrow.Author.Needs.{needs}
 use Rattle.wire.proofs.fields.read_span.Statement.{statement}
 use Rattle.wire.proofs.fields.read_span.Tie as tie
-use Rattle.wire.proofs.fields.read_span.Reads as reads
-use Rattle.wire.proofs.fields.read_span.Lts as lts
-use Rattle.octets.proofs.stretch.from.Reads as from-reads
-use Rattle.wire.proofs.cursor.Cursor.refuse.Reads as refuse-reads
-use Rattle.wire.proofs.fields.no_span.Reads as no-span-reads
 
--- src/fields.rt:219:9
 no-span-requires : tie.Need-no-span-requires
 no-span-requires c κs = search needs
 
--- src/fields.rt:219:9
 returns : tie.Need-returns
 unfolding spanAt if_then_else_
 returns c = (rw (ne-eqb _ _ (c .before .if1 .taken)) (c .no-span .ensures .0), omega arith)
 
--- src/fields.rt:221:9
 from-requires : tie.Need-from-requires
 from-requires c κs = search needs
 
--- src/fields.rt:224:24
 refuse-requires : tie.Need-refuse-requires
 refuse-requires c κs = search needs
 
--- src/fields.rt:224:9
 no-span-requires-2 : tie.Need-no-span-requires-2
 no-span-requires-2 c κs = search needs
 
--- src/fields.rt:224:9
 returns-2 : tie.Need-returns-2
 unfolding spanAt if_then_else_
 returns-2 c = (rw (eq-eqb _ _ (c .before .before .before .before .if1 .left), ← (c .before .before .before .from .ensures), lt-ltb _ _ (c .before .before .if2 .taken), ← (c .before .refuse .ensures)) (c .no-span2 .ensures .0), omega arith)
 
--- src/fields.rt:227:9
 no-span-requires-3 : tie.Need-no-span-requires-3
 no-span-requires-3 c κs = search needs
 
--- src/fields.rt:227:9
 returns-3 : tie.Need-returns-3
 unfolding spanAt if_then_else_
 returns-3 c = (rw (eq-eqb _ _ (c .before .before .before .before .if1 .left), ← (c .before .before .before .from .ensures), le-ltb _ _ (c .before .before .if2 .left), eq-eqb _ _ (c .before .if3 .taken)) (c .no-span3 .ensures .0), omega arith)
 
--- src/fields.rt:232:17
 add-t9 : tie.Need-add-t9
 add-t9 c = omega (arith, simp length-drop at (ap length (c .before .before .from .ensures)))
 
--- src/fields.rt:213:1
 returns-4 : tie.Need-returns-4
 unfolding spanAt if_then_else_
 returns-4 c = (rw (eq-eqb _ _ (c .before .before .before .if1 .left), ← (c .before .before .from .ensures), le-ltb _ _ (c .before .if2 .left), ne-eqb _ _ (c .if3 .left)), omega (arith, simp length-drop at (ap length (c .before .before .from .ensures))))

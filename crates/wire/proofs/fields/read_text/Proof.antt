@@ -1,6 +1,5 @@
 -- `wire::fields::read_text` meets its contract: the octets before the NUL lie in the window, and so in the body. Assumes nothing.
-use mathlib.Core.Path.{_≡_, sym, _∙_}
-use Prim.Native.Nat.{ℕ, _+_, _<_, _≤_}
+use mathlib.Core.Path.{sym, _∙_}
 use native.Mathlib.Omega.{arith}
 use borrow.Author.Tests.{eq-eqb, ne-eqb, lt-ltb, le-ltb, not-true, not-false}
 use Rattle.octets.specs.Choice.{if_then_else_}
@@ -9,45 +8,29 @@ use Rattle.wire.proofs.FieldLaws.{inside}
 use borrow.Author.Needs.{needs}
 use Rattle.wire.proofs.fields.read_text.Statement.{statement}
 use Rattle.wire.proofs.fields.read_text.Tie as tie
-use Rattle.wire.proofs.fields.read_text.Reads as reads
-use Rattle.wire.proofs.fields.read_text.Lts as lts
-use Rattle.forms.proofs.class.lead_of.Reads as lead-of-reads
-use Rattle.forms.proofs.text.is_formed.Reads as is-formed-reads
-use Rattle.octets.proofs.stretch.first.Reads as first-reads
-use Rattle.octets.proofs.stretch.from.Reads as from-reads
-use Rattle.wire.proofs.cursor.Cursor.refuse.Reads as refuse-reads
-use Rattle.wire.proofs.fields.no_span.Reads as no-span-reads
 
--- src/fields.rt:88:9
 no-span-requires : tie.Need-no-span-requires
 no-span-requires c κs = search needs
 
--- src/fields.rt:88:9
 returns : tie.Need-returns
 unfolding textAt if_then_else_
 returns c = (rw (ne-eqb _ _ (c .before .if1 .taken)) (c .no-span .ensures .0), (omega arith, omega arith))
 
--- src/fields.rt:90:41
 from-requires : tie.Need-from-requires
 from-requires c κs = search needs
 
--- src/fields.rt:90:9
 first-requires : tie.Need-first-requires
 first-requires c κs = search needs
 
--- src/fields.rt:91:9
 lead-of-requires : tie.Need-lead-of-requires
 lead-of-requires c κs = search needs
 
--- src/fields.rt:94:28
 refuse-requires : tie.Need-refuse-requires
 refuse-requires c κs = search needs
 
--- src/fields.rt:94:13
 no-span-requires-2 : tie.Need-no-span-requires-2
 no-span-requires-2 c κs = search needs
 
--- src/fields.rt:94:13
 returns-2 : tie.Need-returns-2
 unfolding textAt if_then_else_
 returns-2 c = (
@@ -55,15 +38,12 @@ returns-2 c = (
   (omega arith, omega arith),
 )
 
--- src/fields.rt:96:24
 refuse-requires-2 : tie.Need-refuse-requires-2
 refuse-requires-2 c κs = search needs
 
--- src/fields.rt:96:9
 no-span-requires-3 : tie.Need-no-span-requires-3
 no-span-requires-3 c κs = search needs
 
--- src/fields.rt:96:9
 returns-3 : tie.Need-returns-3
 unfolding textAt if_then_else_
 returns-3 c = (
@@ -71,23 +51,18 @@ returns-3 c = (
   (omega arith, omega arith),
 )
 
--- src/fields.rt:98:32
 first-requires-2 : tie.Need-first-requires-2
 first-requires-2 c κs = search needs
 
--- src/fields.rt:98:9
 is-formed-requires : tie.Need-is-formed-requires
 is-formed-requires c κs = search needs
 
--- src/fields.rt:99:24
 refuse-requires-3 : tie.Need-refuse-requires-3
 refuse-requires-3 c κs = search needs
 
--- src/fields.rt:99:9
 no-span-requires-4 : tie.Need-no-span-requires-4
 no-span-requires-4 c κs = search needs
 
--- src/fields.rt:99:9
 returns-4 : tie.Need-returns-4
 unfolding textAt if_then_else_
 returns-4 c = (
@@ -95,15 +70,12 @@ returns-4 c = (
   (omega arith, omega arith),
 )
 
--- src/fields.rt:104:23
 add-t13 : tie.Need-add-t13
 add-t13 c = let i = inside (c .before .before .before .before .before .before .before .before .before .args .c .at) (c .before .before .before .before .before .before .before .before .before .args .most) (c .before .before .before .before .lead-of .result) _ _ _ (c .before .before .before .before .before .before .from .ensures) (c .before .before .before .before .before .first .ensures) (omega (arith, c .before .before .before .before .lead-of .ensures .1)) in omega arith
 
--- src/fields.rt:104:17
 add-t22 : tie.Need-add-t22
 add-t22 c = let i = inside (c .before .before .before .before .before .before .before .before .before .args .c .at) (c .before .before .before .before .before .before .before .before .before .args .most) (c .before .before .before .before .lead-of .result) _ _ _ (c .before .before .before .before .before .before .from .ensures) (c .before .before .before .before .before .first .ensures) (omega (arith, c .before .before .before .before .lead-of .ensures .1)) in omega arith
 
--- src/fields.rt:82:1
 returns-5 : tie.Need-returns-5
 unfolding textAt if_then_else_
 returns-5 c = let i = inside (c .before .before .before .before .before .before .before .before .before .args .c .at) (c .before .before .before .before .before .before .before .before .before .args .most) (c .before .before .before .before .lead-of .result) _ _ _ (c .before .before .before .before .before .before .from .ensures) (c .before .before .before .before .before .first .ensures) (omega (arith, c .before .before .before .before .lead-of .ensures .1)) in (

@@ -1,42 +1,30 @@
-use mathlib.Core.Bool.{true, false, _||_}
-use mathlib.Core.Path.{_≡_, refl}
-use native.Mathlib.Omega.{arith}
-use lib.Dec.{ltb}
+-- `wire::frame::frame_of` meets its contract. Assumes nothing.
 use borrow.Author.Tests.{lt-ltb, le-ltb, ltb-false}
 use Rattle.octets.specs.Choice.{if_then_else_}
-use Rattle.octets.proofs.StretchLaws.{or-left, or-right}
+use Rattle.octets.proofs.StretchLaws.{or-left}
 use Rattle.wire.specs.Frame.{frameOf}
 use borrow.Author.Needs.{needs}
 use Rattle.wire.proofs.frame.frame_of.Statement.{statement}
 use Rattle.wire.proofs.frame.frame_of.Tie as tie
-use Rattle.wire.proofs.frame.frame_of.Reads as reads
-use Rattle.wire.proofs.frame.frame_of.Lts as lts
-use Rattle.octets.proofs.number.number_at.Reads as number-at-reads
 
--- src/frame.rt:23:9
 returns : tie.Need-returns
 unfolding frameOf if_then_else_
 returns c = (rw (lt-ltb _ _ (c .if1 .taken)), tt)
 
--- src/frame.rt:25:9
 number-at-requires : tie.Need-number-at-requires
 number-at-requires c κs = search needs
 
--- src/frame.rt:27:9
 returns-2 : tie.Need-returns-2
 unfolding frameOf if_then_else_
 returns-2 c = (rw (le-ltb _ _ (c .before .before .if1 .left), ← (c .before .number-at .ensures), c .if2 .taken), tt)
 
--- src/frame.rt:29:17
 cast-whole : tie.Need-cast-whole
 cast-whole c = search needs
 
--- src/frame.rt:31:9
 returns-3 : tie.Need-returns-3
 unfolding frameOf if_then_else_
 returns-3 c = (rw (le-ltb _ _ (c .before .before .before .if1 .left), ← (c .before .before .number-at .ensures), c .before .if2 .left, lt-ltb _ _ (c .if3 .taken)), tt)
 
--- src/frame.rt:19:1
 returns-4 : tie.Need-returns-4
 unfolding frameOf if_then_else_
 returns-4 c = (rw (le-ltb _ _ (c .before .before .before .if1 .left), ← (c .before .before .number-at .ensures), c .before .if2 .left, le-ltb _ _ (c .if3 .left)), (ltb-false _ _ (or-left _ _ (c .before .if2 .left)), c .if3 .left))

@@ -1,20 +1,15 @@
+-- `wire::frame::read_header` meets its contract. Assumes nothing.
 use Rattle.wire.specs.Frame.{headerOf}
 use borrow.Author.Needs.{needs}
 use Rattle.wire.proofs.frame.read_header.Statement.{statement}
 use Rattle.wire.proofs.frame.read_header.Tie as tie
-use Rattle.wire.proofs.frame.read_header.Reads as reads
-use Rattle.wire.proofs.frame.read_header.Lts as lts
-use Rattle.octets.proofs.number.number_at.Reads as number-at-reads
 
--- src/frame.rt:46:9
 number-at-requires : tie.Need-number-at-requires
 number-at-requires c κs = search needs
 
--- src/frame.rt:47:9
 number-at-requires-2 : tie.Need-number-at-requires-2
 number-at-requires-2 c κs = search needs
 
--- src/frame.rt:42:1
 returns : tie.Need-returns
 unfolding headerOf
 returns c = rw (← (c .before .number-at .ensures), ← (c .number-at2 .ensures))

@@ -1,4 +1,4 @@
-use mathlib.Core.Path.{_≡_, refl}
+-- `wire::reply::query` meets its contract. Assumes nothing.
 use mathlib.Core.List.{_∷_, []}
 use native.Mathlib.Omega.{arith}
 use Rattle.wire.specs.Reply.{queryResponse, queryBody, idText}
@@ -6,53 +6,37 @@ use Rattle.wire.proofs.ReplyLaws.{replied, idText-within, queryBody-len
 use borrow.Author.Needs.{needs}
 use Rattle.wire.proofs.reply.query.Statement.{statement}
 use Rattle.wire.proofs.reply.query.Tie as tie
-use Rattle.wire.proofs.reply.query.Reads as reads
-use Rattle.wire.proofs.reply.query.Lts as lts
-use Rattle.octets.proofs.stretch.put.Reads as put-reads
-use Rattle.wire.proofs.reply.put_header.Reads as put-header-reads
-use Rattle.wire.proofs.reply.put_id.Reads as put-id-reads
 
--- src/reply.rt:75:9
 put-id-requires : tie.Need-put-id-requires
 put-id-requires c κs = search needs
 
--- src/reply.rt:76:21
 add-behind-id : tie.Need-add-behind-id
 add-behind-id c = omega (arith, c .before .before .put-id .ensures .0, idText-within (c .before .before .before .before .before .before .args .id))
 
--- src/reply.rt:77:5
 put-requires : tie.Need-put-requires
 put-requires c κs = omega (arith, c .before .before .before .put-id .ensures .0, idText-within (c .before .before .before .before .before .before .before .args .id))
 
--- src/reply.rt:78:23
 add-behind-date : tie.Need-add-behind-date
 add-behind-date c = omega (arith, c .before .before .before .before .before .before .put-id .ensures .0, idText-within (c .before .before .before .before .before .before .before .before .before .before .args .id))
 
--- src/reply.rt:80:46
 slice-aggregate-put : tie.Need-slice-aggregate-put
 slice-aggregate-put c = search needs
 
--- src/reply.rt:80:5
 put-requires-2 : tie.Need-put-requires-2
 put-requires-2 c κs = omega (arith, c .before .before .before .before .before .before .before .before .put-id .ensures .0, idText-within (c .before .before .before .before .before .before .before .before .before .before .before .before .args .id))
 
--- src/reply.rt:81:19
 add-written : tie.Need-add-written
 add-written c = omega (arith, c .before .before .before .before .before .before .before .before .before .before .before .put-id .ensures .0, idText-within (c .before .before .before .before .before .before .before .before .before .before .before .before .before .before .before .args .id))
 
--- src/reply.rt:82:23
 cast-put-header : tie.Need-cast-put-header
 cast-put-header c = omega (arith, c .before .before .before .before .before .before .before .before .before .before .before .before .put-id .ensures .0, idText-within (c .before .before .before .before .before .before .before .before .before .before .before .before .before .before .before .before .args .id))
 
--- src/reply.rt:82:5
 put-header-requires : tie.Need-put-header-requires
 put-header-requires c κs = search needs
 
--- src/reply.rt:71:1
 same-length : tie.Need-same-length
 same-length c = search needs
 
--- src/reply.rt:71:1
 returns : tie.Need-returns
 unfolding queryBody
 returns c = rw (c .before .before .put-header .ensures, c .before .before .before .before .before .before .put2 .ensures, c .before .before .before .before .before .before .before .before .before .before .before .put .ensures, c .before .before .before .before .before .before .before .before .before .before .before .before .before .before .before .put-id .ensures .1, c .before .before .before .before .before .before .before .before .before .before .before .before .before .before .before .put-id .ensures .0, three-pieces (c .before .before .before .before .before .before .before .before .before .before .before .before .before .before .before .before .before .before .before .args .space .now) 16 (idText (c .before .before .before .before .before .before .before .before .before .before .before .before .before .before .before .before .before .before .before .args .id)) (c .before .before .before .before .before .before .before .before .before .before .before .before .before .before .before .before .before .before .before .args .date .now) (0 ∷ c .before .before .before .before .before .before .before .before .before .before .before .before .before .before .before .before .before .before .before .args .state ∷ c .before .before .before .before .before .before .before .before .before .before .before .before .before .before .before .before .before .before .before .args .error ∷ [])) (replied _ queryResponse (c .before .before .before .before .before .before .before .before .before .before .before .before .before .before .before .before .before .before .before .args .status) (c .before .before .before .before .before .before .before .before .before .before .before .before .before .before .before .before .before .before .before .args .sequence) (queryBody (c .before .before .before .before .before .before .before .before .before .before .before .before .before .before .before .before .before .before .before .args .id) (c .before .before .before .before .before .before .before .before .before .before .before .before .before .before .before .before .before .before .before .args .date .now) (c .before .before .before .before .before .before .before .before .before .before .before .before .before .before .before .before .before .before .before .args .state) (c .before .before .before .before .before .before .before .before .before .before .before .before .before .before .before .before .before .before .before .args .error)) (c .before .before .before .before .before .before .before .before .before .before .before .before .before .before .before .before .before .before .before .args .space .now) (omega (arith, queryBody-length (c .before .before .before .before .before .before .before .before .before .before .before .before .before .before .before .before .before .before .before .args .id) (c .before .before .before .before .before .before .before .before .before .before .before .before .before .before .before .before .before .before .before .args .date .now) (c .before .before .before .before .before .before .before .before .before .before .before .before .before .before .before .before .before .before .before .args .state) (c .before .before .before .before .before .before .before .before .before .before .before .before .before .before .before .before .before .before .before .args .error))) (omega (arith, queryBody-length (c .before .before .before .before .before .before .before .before .before .before .before .before .before .before .before .before .before .before .before .args .id) (c .before .before .before .before .before .before .before .before .before .before .before .before .before .before .before .before .before .before .before .args .date .now) (c .before .before .before .before .before .before .before .before .before .before .before .before .before .before .before .before .before .before .before .args .state) (c .before .before .before .before .before .before .before .before .before .before .before .before .before .before .before .before .before .before .before .args .error), idText-within (c .before .before .before .before .before .before .before .before .before .before .before .before .before .before .before .before .before .before .before .args .id))))

@@ -1,3 +1,4 @@
+-- `wire::reply::submit` meets its contract. Assumes nothing.
 use mathlib.Core.Path.{refl}
 use native.Mathlib.Omega.{arith}
 use Rattle.wire.specs.Reply.{submitResponse, submitBody}
@@ -5,36 +6,25 @@ use Rattle.wire.proofs.ReplyLaws.{replied, idText-within}
 use borrow.Author.Needs.{needs}
 use Rattle.wire.proofs.reply.submit.Statement.{statement}
 use Rattle.wire.proofs.reply.submit.Tie as tie
-use Rattle.wire.proofs.reply.submit.Reads as reads
-use Rattle.wire.proofs.reply.submit.Lts as lts
-use Rattle.wire.proofs.reply.put_header.Reads as put-header-reads
-use Rattle.wire.proofs.reply.put_id.Reads as put-id-reads
 
--- src/reply.rt:64:9
 put-id-requires : tie.Need-put-id-requires
 put-id-requires c κs = search needs
 
--- src/reply.rt:65:21
 cast-size : tie.Need-cast-size
 cast-size c = omega (arith, c .before .before .put-id .ensures .0, idText-within (c .before .before .before .before .before .args .id))
 
--- src/reply.rt:65:16
 add-size : tie.Need-add-size
 add-size c = omega (arith, c .before .before .put-id .ensures .0, idText-within (c .before .before .before .before .before .args .id))
 
--- src/reply.rt:66:5
 put-header-requires : tie.Need-put-header-requires
 put-header-requires c κs = search needs
 
--- src/reply.rt:67:5
 add-result : tie.Need-add-result
 add-result c = omega (arith, c .before .before .before .before .before .before .put-id .ensures .0, idText-within (c .before .before .before .before .before .before .before .before .before .args .id))
 
--- src/reply.rt:60:1
 same-length : tie.Need-same-length
 same-length c = search needs
 
--- src/reply.rt:60:1
 returns : tie.Need-returns
 returns c = rw (c .before .before .put-header .ensures, c .before .before .before .before .before .before .put-id .ensures .1, c .before .before .before .before .before .before .put-id .ensures .0) (replied _ submitResponse (c .before .before .before .before .before .before .before .before .before .args .status) (c .before .before .before .before .before .before .before .before .before .args .sequence) (submitBody (c .before .before .before .before .before .before .before .before .before .args .id)) (c .before .before .before .before .before .before .before .before .before .args .space .now) refl (omega (arith, idText-within (c .before .before .before .before .before .before .before .before .before .args .id))))
 

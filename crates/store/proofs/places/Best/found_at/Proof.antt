@@ -1,16 +1,12 @@
+-- `store::places::Best::found_at` meets its contract. Assumes nothing.
 use Rattle.octets.specs.Choice.{if_then_else_}
-use borrow.Author.Needs.{needs}
 use Rattle.store.proofs.places.Best.found_at.Statement.{statement}
 use Rattle.store.proofs.places.Best.found_at.Tie as tie
-use Rattle.store.proofs.places.Best.found_at.Reads as reads
-use Rattle.store.proofs.places.Best.found_at.Lts as lts
 
--- src/places.rt:35:5
 returns : tie.Need-returns
 unfolding if_then_else_
 returns c = rw (c .if1 .taken)
 
--- src/places.rt:35:5
 returns-2 : tie.Need-returns-2
 unfolding if_then_else_
 returns-2 c = rw (c .if1 .left)

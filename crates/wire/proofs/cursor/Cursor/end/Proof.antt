@@ -1,22 +1,18 @@
+-- `wire::cursor::Cursor::end` meets its contract. Assumes nothing.
 use borrow.Author.Tests.{eq-eqb, ne-eqb, lt-ltb, le-ltb}
 use Rattle.octets.specs.Choice.{if_then_else_}
 use Rattle.wire.specs.Cursor.{endOf}
 use Rattle.wire.proofs.cursor.Cursor.end.Statement.{statement}
 use Rattle.wire.proofs.cursor.Cursor.end.Tie as tie
-use Rattle.wire.proofs.cursor.Cursor.end.Reads as reads
-use Rattle.wire.proofs.cursor.Cursor.end.Lts as lts
 
--- src/cursor.rt:47:13
 returns : tie.Need-returns
 unfolding endOf if_then_else_
 returns c = simp (ne-eqb _ _ (c .if1 .taken))
 
--- src/cursor.rt:50:13
 returns-2 : tie.Need-returns-2
 unfolding endOf if_then_else_
 returns-2 c = simp (eq-eqb _ _ (c .before .before .if1 .left), lt-ltb _ _ (c .if2 .taken))
 
--- src/cursor.rt:43:5
 returns-3 : tie.Need-returns-3
 unfolding endOf if_then_else_
 returns-3 c = simp (eq-eqb _ _ (c .before .before .if1 .left), le-ltb _ _ (c .if2 .left))
