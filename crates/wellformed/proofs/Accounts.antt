@@ -1,27 +1,28 @@
 -- Each effect leaves a well-formed account well formed, with the last id that it gives back. A query changes nothing: it gives back neither a part
 -- nor a last id. Assumes nothing.
-use mathlib.Core.Path.{_≡_, refl, subst, _∙_}
-use mathlib.Core.Bool.{Bool, true, _&&_, _||_}
-use mathlib.Core.Logic.{⊎-map}
+use mathlib.Core.Path.{_≡_, refl, _∙_}
+use mathlib.Core.Bool.{Bool, true, false, _&&_, _||_}
+use mathlib.Core.Logic.{_⊎_, inl, inr, ⊎-elim, ⊎-map}
 use mathlib.Core.List.{List}
 use Prim.Native.Nat.{ℕ, _+_, _≤_, _<_}
 use native.Mathlib.Omega.{arith}
 use lib.ListN.{length}
 use lib.Dec.{eqb}
+use borrow.Author.Tests.{eqb-true, ne-eqb}
 use Rattle.octets.proofs.StretchLaws.{and-left, and-right, if-cases}
 use Rattle.forms.specs.Time.{sentTime}
+use Rattle.forms.proofs.ClassLaws.{within-low}
 use Rattle.forms.specs.declared.text.MessageId.{MessageId}
 use Rattle.forms.specs.declared.text.MessageId.the-variants.{Empty, Number}
 use Rattle.wire.specs.Fields.{octetsOf}
-use Rattle.store.specs.Layout.{recordSize, places, partSize, idOf, sourceOf, destinationOf}
+use Rattle.store.specs.Layout.{recordSize, places, partSize, stateOf, idOf, sourceOf, destinationOf}
 use Rattle.store.specs.Book.{bookRecordSize, sameAddress}
-use Rattle.store.specs.Places.{recordAt, OnePlace, onPlace, onPlaces}
+use Rattle.store.specs.Places.{recordAt, onPlace, onPlaces}
 use Rattle.store.specs.Search.{waiting, between, overwritable, isEmpty, hasId, pairPlace, emptyPlace, finishedPlace, orElse, newPlace}
 use Rattle.store.specs.Change.{finished, retexted, corrected}
 use Rattle.store.specs.Account.{accountOk}
 use Rattle.store.specs.declared.places.Found.{Found}
 use Rattle.store.specs.declared.places.Found.the-variants.{At, Nowhere}
-use Rattle.store.proofs.PlacesLaws.{lowest-below}
 use Rattle.account.specs.Source.{noAddress, known}
 use Rattle.account.specs.Submit.{Submitted, submitted, toReplace}
 use Rattle.account.specs.Cancel.{Changed, deleted, deletedIf, cancellable, cancelled}
@@ -48,14 +49,22 @@ unfolding known
 known-place Empty part k e = never e
 known-place (Number id) part k e = found-place (hasId id) idOf part k e
 
-pub new-place : (part : List ℕ) (k : ℕ) → newPlace part ≡ At k → k < places
+either-place : (a b : Found) (k : ℕ) → orElse a b ≡ At k → (a ≡ At k) ⊎ (b ≡ At k)
 unfolding orElse
-new-place part k e =
-    subst OnePlace e (by (emptyPlace part) (finishedPlace part) (lowest-below recordSize places isEmpty (λ r. 0) part) (lowest-below recordSize places overwritable idOf part))
-  where
-    by : (a b : Found) → OnePlace a → OnePlace b → OnePlace (orElse a b)
-    by (At i) b p q = p
-    by Nowhere b p q = q
+either-place (At i) b k e = inl e
+either-place Nowhere b k e = inr e
+
+module _ (part : List ℕ) (k : ℕ) (e : newPlace part ≡ At k) where
+  pub new-place : k < places
+  new-place = ⊎-elim (found-place isEmpty (λ r. 0) part k) (found-place overwritable idOf part k) (either-place (emptyPlace part) (finishedPlace part) k e)
+
+  -- no waiting record is overwritten
+  pub new-place-free : waiting (recordAt k part) ≡ false
+  new-place-free =
+      ne-eqb (stateOf (recordAt k part)) 1 λ one.
+      ⊎-elim (λ h. omega (arith, eqb-true (stateOf (recordAt k part)) 0 (found-passes isEmpty (λ r. 0) part k h)))
+      (λ h. omega (arith, within-low 2 5 (stateOf (recordAt k part)) (found-passes overwritable idOf part k h)))
+      (either-place (emptyPlace part) (finishedPlace part) k e)
 
 pub replace-place : (source body part : List ℕ) (k : ℕ) → toReplace source (submission body) part ≡ At k
     → (k < places) × (waiting (recordAt k part) ≡ true)

@@ -1,12 +1,14 @@
--- A place that a search finds is one of the sixteen, and the record there passes the search's test. Assumes nothing.
+-- A place that a search finds is one of the sixteen, and the record there passes the search's test; where it finds none, no record does. Assumes
+-- nothing.
 use mathlib.Core.Path.{_≡_, sym, ap, subst, _∙_}
-use mathlib.Core.Bool.{Bool, true, false≢true}
+use mathlib.Core.Bool.{Bool, true, false, not, _&&_, _||_, false≢true}
 use mathlib.Core.List.{List, [], _∷_}
-use Prim.Native.Nat.{ℕ, suc, _+_, _<_}
+use Prim.Native.Nat.{ℕ, zero, suc, _+_, _<_}
 use native.Mathlib.Nat.{zero-add, add-zero}
 use native.Mathlib.Omega.{arith}
 use lib.ListN.{length, getD}
-use Rattle.octets.proofs.StretchLaws.{and-left, if-cases}
+use lib.Dec.{ltb}
+use Rattle.octets.proofs.StretchLaws.{and-left, and-true, if-cases}
 use Rattle.octets.proofs.RowsLaws.{rows-length, rows-at}
 use Rattle.store.specs.Layout.{recordSize, places}
 use Rattle.store.specs.Places.{records, recordAt, OnePlace, over, none, keep, lowest}
@@ -49,3 +51,29 @@ module _ (passes : List ℕ → Bool) (rank : List ℕ → ℕ) where
             over-held (λ i. recordAt i part) 0 none (records part)
             (λ i h. rows-at recordSize places i part (omega (arith, rows-length recordSize places part)) ∙ ap (λ (j : ℕ). recordAt j part) (sym (zero-add i)))
             (λ e. absurd (false≢true e))
+
+  -- a record that passes is kept unless there is one already
+  keep-none : (b : Best) (k : ℕ) (r : List ℕ) → keep passes rank b k r .found ≡ false → (b .found ≡ false) × (passes r ≡ false)
+  unfolding keep
+  keep-none b k r =
+      if-cases (λ (x : Best). x .found ≡ false → (b .found ≡ false) × (passes r ≡ false)) (passes r && (not (b .found) || ltb (rank r) (b .rank))) _ b
+      (λ _ e. absurd (false≢true (sym e)))
+      (λ t e. (e, sym (and-true (passes r)) ∙ rw e at t))
+
+  over-none : (b : Best) (k : ℕ) (rs : List (List ℕ)) → over (keep passes rank) b k rs .found ≡ false
+      → (b .found ≡ false) × ((i : ℕ) → i < length rs → passes (getD rs i []) ≡ false)
+  unfolding over
+  over-none b k [] e = (e, λ i h. absurd (omega arith))
+  over-none b k (r ∷ rs) e =
+      let rest = over-none (keep passes rank b k r) (k + 1) rs e in
+      let first = keep-none b k r (rest .0) in
+      (first .0, elim [ zero ↦ λ _. first .1 | suc i ↦ λ h. rest .1 i (omega arith) ])
+
+  pub found-none : (part : List ℕ) → lowest passes rank (records part) ≡ Nowhere → (k : ℕ) → k < places → passes (recordAt k part) ≡ false
+  unfolding lowest
+  found-none part nowhere k h =
+      let best = over (keep passes rank) none 0 (records part) in
+      let empty : best .found ≡ false =
+      if-cases (λ (x : Found). x ≡ Nowhere → best .found ≡ false) (best .found) (At (best .place)) Nowhere
+      (λ _ e. let z : _≡_ {A = ℕ} 0 1 = cc in absurd (omega arith)) (λ e _. e) nowhere in
+      ap passes (sym (rows-at recordSize places k part h)) ∙ over-none none 0 (records part) empty .1 k (omega (arith, rows-length recordSize places part))
