@@ -1,0 +1,91 @@
+-- What an account is asked, by cases: what holds of each answer that leaves the account as it was, and of the reply to each turn, holds of
+-- whatever is asked. Assumes nothing.
+use mathlib.Core.Path.{_≡_}
+use mathlib.Core.Bool.{Bool, true, false}
+use mathlib.Core.List.{List}
+use Prim.Native.Nat.{ℕ}
+use lib.ListN.{take}
+use Rattle.octets.proofs.StretchLaws.{if-cases}
+use Rattle.wire.specs.Frame.{frameOf}
+use Rattle.wire.specs.Reply.{submitBody}
+use Rattle.wire.specs.declared.frame.Frame.{Frame}
+use Rattle.wire.specs.declared.frame.Frame.the-variants.{More, Malformed, Whole}
+use Rattle.store.specs.Account.{accountOk}
+use Rattle.store.specs.Places.{recordAt}
+use Rattle.account.specs.Submit.{submitted}
+use Rattle.account.specs.Query.{queried}
+use Rattle.account.specs.Cancel.{cancelled}
+use Rattle.account.specs.Replace.{replaced}
+use Rattle.isolation.specs.Platform.{Effect}
+use Rattle.centre.specs.Answer.{Octets, Answer, taken, refusedOctets, silent}
+use Rattle.centre.specs.Open.{nakLength}
+use Rattle.centre.specs.Bound.{Turn, refusing, noQuery, foundBody, submitTurn, queryTurn, changing, cancelTurn, replaceTurn, unbindTurn, replying, keeping, boundCommand, boundFrame, onBound}
+use Rattle.wellformed.proofs.Cases.{found-cases}
+
+module _ (book : List ℕ) (x : Octets) (part : List ℕ) (last : ℕ) where
+  -- what holds of the turns
+  pub record Turns (Q : Turn → Type 0) : Type 0 where
+    pub same : (status : ℕ) (body : List ℕ) (ends : Bool) → Q (record { status = status; body = body; part = part; last = last; ends = ends })
+    pub submits : (body : List ℕ)
+        → (let s = submitted book body part last in Q (record { status = s .status; body = submitBody (s .id); part = s .part; last = s .last; ends = false }))
+    pub cancels : (body : List ℕ) → Q (changing (cancelled book (x .stamp) body part) last)
+    pub replaces : (body : List ℕ) → Q (changing (replaced book body part) last)
+
+  -- what holds of the answers
+  pub record Answers (P : Effect Answer → Type 0) (Q : Turn → Type 0) : Type 0 where
+    pub more : P (keeping (taken 1 0 0 (x .space)) part last)
+    pub nak : P (record { answer = nakLength (x .space); part = part; last = last; ends = true })
+    pub quiet : (n : ℕ) → P (keeping (silent n (x .space)) part last)
+    pub replies : (n id sequence : ℕ) (t : Turn) → Q t → P (replying n id sequence t (x .space))
+
+  module _ (P : Effect Answer → Type 0) (Q : Turn → Type 0) (transmitter : Bool) (turns : Turns Q) (answers : Answers P Q) where
+    query-cases : (body : List ℕ) → Q (queryTurn transmitter book body part last)
+    unfolding queryTurn
+    query-cases body =
+        let q = queried book body part in
+        if-cases Q _ _ _
+        (λ _. found-cases Q (q .place) (λ k. refusing (q .status) (foundBody (recordAt k part)) part last) (refusing (q .status) noQuery part last)
+        (λ k _. turns .same _ _ _) (λ _. turns .same _ _ _))
+        (λ _. turns .same _ _ _)
+
+    submit-cases : (body : List ℕ) → Q (submitTurn transmitter book body part last)
+    unfolding submitTurn
+    submit-cases body = if-cases Q _ _ _ (λ _. turns .submits body) (λ _. turns .same _ _ _)
+
+    cancel-cases : (body : List ℕ) → Q (cancelTurn transmitter book (x .stamp) body part last)
+    unfolding cancelTurn
+    cancel-cases body = if-cases Q _ _ _ (λ _. turns .cancels body) (λ _. turns .same _ _ _)
+
+    replace-cases : (body : List ℕ) → Q (replaceTurn transmitter book body part last)
+    unfolding replaceTurn
+    replace-cases body = if-cases Q _ _ _ (λ _. turns .replaces body) (λ _. turns .same _ _ _)
+
+    unbind-cases : (body : List ℕ) → Q (unbindTurn body part last)
+    unfolding unbindTurn
+    unbind-cases body = turns .same _ _ _
+
+    command-cases : (n command sequence : ℕ) (body : List ℕ)
+        → P (boundCommand transmitter book (x .stamp) n command sequence body (x .space) part last)
+    unfolding boundCommand
+    command-cases n command sequence body =
+        let reply = answers .replies n in
+        if-cases P _ _ _ (λ _. reply _ sequence _ (turns .same _ _ _)) λ _.
+        if-cases P _ _ _ (λ _. reply _ sequence _ (turns .same _ _ _)) λ _.
+        if-cases P _ _ _ (λ _. reply _ sequence _ (query-cases body)) λ _.
+        if-cases P _ _ _ (λ _. reply _ sequence _ (submit-cases body)) λ _.
+        if-cases P _ _ _ (λ _. reply _ sequence _ (unbind-cases body)) λ _.
+        if-cases P _ _ _ (λ _. reply _ sequence _ (replace-cases body)) λ _.
+        if-cases P _ _ _ (λ _. reply _ sequence _ (cancel-cases body)) λ _.
+        if-cases P _ _ _ (λ _. reply _ sequence _ (turns .same _ _ _)) λ _.
+        if-cases P _ _ _ (λ _. answers .quiet n) λ _. reply _ sequence _ (turns .same _ _ _)
+
+    frame-cases : (frame : Frame) → P (boundFrame transmitter book (x .octets) (x .stamp) (x .space) frame part last)
+    frame-cases More = answers .more
+    frame-cases Malformed = answers .nak
+    frame-cases (Whole n) = command-cases _ _ _ _
+
+  pub bound-cases : (P : Effect Answer → Type 0) (Q : Turn → Type 0) (transmitter : Bool) → P (keeping (refusedOctets 9 x) part last)
+      → (accountOk book last part ≡ true → Turns Q) → Answers P Q → P (onBound transmitter book x part last)
+  unfolding onBound
+  bound-cases P Q transmitter refused turns answers =
+      if-cases P (accountOk book last part) _ _ (λ ok. frame-cases P Q transmitter (turns ok) answers (frameOf (x .octets))) (λ _. refused)

@@ -1,0 +1,2 @@
+pub mod BoundCases
+pub mod Isolated
