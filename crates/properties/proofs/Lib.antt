@@ -1,2 +1,4 @@
 pub mod BoundCases
 pub mod Isolated
+pub mod Back
+pub mod Unique

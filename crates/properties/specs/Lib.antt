@@ -1,1 +1,2 @@
+pub mod Property2
 pub mod Property3

@@ -1,0 +1,32 @@
+-- Requests are read and responses written octet for octet as defined; session states and effects are those of that definition too (the second
+-- property). The definition is `step` of crate centre. That each public operation follows it is the contract of its code: taking octets and
+-- an outcome say `takes .. ≡ step ..` and `reports .. ≡ step ..`, a pick gives number and record of its step's answer, opening and closing say
+-- what is `step` by the first two lines here. The others say that such a contract allows one result only, so the definition alone decides.
+use Prim.Native.Nat.{ℕ}
+use mathlib.Core.Path.{_≡_}
+use mathlib.Core.List.{List}
+use Rattle.session.specs.State.{opened, closed}
+use Rattle.session.specs.declared.State.{State}
+use Rattle.session.specs.declared.Moved.{Moved}
+use Rattle.isolation.specs.Platform.{World, opens, closes, picks, Ran}
+use Rattle.centre.specs.Answer.{Answer, picked}
+use Rattle.centre.specs.Centre.{step, world, moves, takes, reports, pickedNumber, pickedRecord}
+use Rattle.centre.specs.declared.take.Taken.{Taken}
+
+pub record Property2 : Type 0 where
+  -- opening and closing are steps
+  pub opening : (book : List ℕ) (state : State) (table : List ℕ) (s : ℕ) → moves (opened state s) table ≡ step book (world state table) (opens s)
+  pub closing : (book : List ℕ) (state : State) (table : List ℕ) (s : ℕ) → moves (closed state s) table ≡ step book (world state table) (closes s)
+  -- a pick changes nothing, and its number and its record are its whole answer
+  pub picking : (book : List ℕ) (w : World) (a : ℕ) → (let r = step book w (picks a) in
+      r ≡ record { answer = picked (pickedNumber (r .answer)) (pickedRecord (r .answer)); world = w })
+  -- one result only: of a move, of taken octets, of an outcome
+  pub moved : (d : Ran Answer) (r r′ : Moved) (t t′ : List ℕ) → moves r t ≡ d → moves r′ t′ ≡ d → (r ≡ r′) × (t ≡ t′)
+  pub taken : (d : Ran Answer) (r r′ : Taken) (t t′ space space′ : List ℕ) → takes r t space ≡ d → takes r′ t′ space′ ≡ d
+      → (r ≡ r′) × (t ≡ t′) × (space ≡ space′)
+  pub reported : (d : Ran Answer) (n n′ : ℕ) (state state′ : State) (t t′ : List ℕ) → reports n state t ≡ d → reports n′ state′ t′ ≡ d
+      → (n ≡ n′) × (state ≡ state′) × (t ≡ t′)
+
+-- the same of a contract that names its result
+abbrev pub Given : Type 0 → Type 0
+Given A = (d r r′ : A) → r ≡ d → r′ ≡ d → r ≡ r′
