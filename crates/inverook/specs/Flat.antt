@@ -1,0 +1,56 @@
+-- The state as C holds it, and the state that it stands for.
+use Prim.Native.Nat.{ℕ}
+use mathlib.Core.List.{List, [], _∷_, map}
+use lib.ListN.{getD}
+use lib.Dec.{eqb}
+use Rattle.octets.specs.Choice.{if_then_else_}
+use Rattle.session.specs.State.{entryAt}
+use Rattle.session.specs.declared.Entry.{Entry}
+use Rattle.session.specs.declared.Entry.the-variants.{Closed, Open, Transmitter, Receiver, Ended}
+use Rattle.session.specs.declared.Session.{Session}
+use Rattle.session.specs.declared.State.{State}
+use Rattle.inverook.specs.declared.flat.InverookState.{InverookState}
+
+abbrev pub sessions : List ℕ
+sessions = 0 ∷ 1 ∷ 2 ∷ 3 ∷ 4 ∷ 5 ∷ 6 ∷ 7 ∷ 8 ∷ 9 ∷ 10 ∷ 11 ∷ 12 ∷ 13 ∷ 14 ∷ 15 ∷ []
+
+-- ---- from numbers: a kind above 4 counts as ended, and an account is looked at where the kind is 2 or 3
+
+unfoldable pub entryOf : ℕ → ℕ → Entry
+entryOf kind account =
+    if eqb kind 0 then Closed
+    else if eqb kind 1 then Open
+    else if eqb kind 2 then Transmitter account
+    else if eqb kind 3 then Receiver account
+    else Ended
+
+abbrev pub sessionAt : InverookState → ℕ → Session
+sessionAt flat i = record { entry = entryOf (getD (flat .kinds) i 0) (getD (flat .accounts) i 0) }
+
+unfoldable pub stateOf : InverookState → State
+stateOf flat = record { sessions = map (sessionAt flat) sessions; lasts = flat .lasts }
+
+-- ---- to numbers: an account is 0 unless bound
+
+abbrev pub kindOf : Entry → ℕ
+kindOf Closed = 0
+kindOf Open = 1
+kindOf (Transmitter a) = 2
+kindOf (Receiver a) = 3
+kindOf Ended = 4
+
+abbrev pub accountOf : Entry → ℕ
+accountOf Closed = 0
+accountOf Open = 0
+accountOf (Transmitter a) = a
+accountOf (Receiver a) = a
+accountOf Ended = 0
+
+unfoldable pub kindAt : State → ℕ → ℕ
+kindAt st i = kindOf (entryAt st i)
+
+unfoldable pub accountAt : State → ℕ → ℕ
+accountAt st i = accountOf (entryAt st i)
+
+unfoldable pub flatOf : State → InverookState
+flatOf st = record { kinds = map (kindAt st) sessions; accounts = map (accountAt st) sessions; lasts = st .lasts }

@@ -1,0 +1,136 @@
+// The centre for C: include/inverook.h tells a caller what each function is given and gives. A slice is passed as pointer and length.
+mod flat;
+
+use flat::InverookState;
+use store::places::Found;
+ghost use mathlib.Core.Path.{_≡_};
+ghost use Prim.Native.Nat.{ℕ};
+ghost use mathlib.Core.List.{List};
+ghost use Rattle.isolation.specs.Platform.{Step};
+ghost use Rattle.centre.specs.Centre.{step, world, reports, pickedNumber};
+ghost use Rattle.inverook.specs.Flat.{stateOf};
+ghost use Rattle.inverook.specs.Calls.{moved, taken, flatly, pickedAt};
+
+// inverook_moved of the header.
+#[repr(C)]
+pub struct InverookMoved {
+    pub number: u8,
+    pub state: InverookState,
+}
+
+// inverook_taken of the header.
+#[repr(C)]
+pub struct InverookTaken {
+    pub number: u8,
+    pub consumed: usize,
+    pub written: usize,
+    pub state: InverookState,
+}
+
+#[no_mangle]
+pub extern "C" fn inverook_open(state: InverookState, session: usize) -> InverookMoved
+    ensures { λ r. ⌜ ((book table : List ℕ) → moved r table ≡ flatly (step book (world (stateOf state) table) (Step.opens session))) ⌝ }
+{
+    let held = flat::state_of(state);
+    let opened = held.open(session);
+    let next = opened.state;
+    let given = flat::flat_of(next);
+    InverookMoved {
+        number: opened.number,
+        state: given,
+    }
+}
+
+#[no_mangle]
+pub extern "C" fn inverook_close(state: InverookState, session: usize) -> InverookMoved
+    ensures { λ r. ⌜ ((book table : List ℕ) → moved r table ≡ flatly (step book (world (stateOf state) table) (Step.closes session))) ⌝ }
+{
+    let held = flat::state_of(state);
+    let closed = held.close(session);
+    let next = closed.state;
+    let given = flat::flat_of(next);
+    InverookMoved {
+        number: closed.number,
+        state: given,
+    }
+}
+
+#[no_mangle]
+pub extern "C" fn inverook_take(
+    book: &[u8],
+    table: &mut [u8],
+    state: InverookState,
+    session: usize,
+    octets: &[u8],
+    stamp: &[u8],
+    space: &mut [u8],
+) -> InverookTaken
+    ensures { λ r. ⌜ taken r (now (table .exit)) (now (space .exit)) ≡ flatly (step (now (book .entry)) (world (stateOf state) (now (table .entry))) (Step.octets session (record { octets = now (octets .entry); stamp = now (stamp .entry); space = now (space .entry) }))) ⌝ }
+{
+    let held = flat::state_of(state);
+    let took = centre::take::take(book, table, held, session, octets, stamp, space);
+    let next = took.state;
+    let given = flat::flat_of(next);
+    InverookTaken {
+        number: took.number,
+        consumed: took.consumed,
+        written: took.written,
+        state: given,
+    }
+}
+
+#[no_mangle]
+pub extern "C" fn inverook_outcome(
+    book: &[u8],
+    table: &mut [u8],
+    state: InverookState,
+    stamp: &[u8],
+    account: usize,
+    id: u32,
+    outcome: u8,
+    error: u8,
+) -> u8
+    ensures { λ r. ⌜ reports r (stateOf state) (now (table .exit)) ≡ step (now (book .entry)) (world (stateOf state) (now (table .entry))) (Step.outcome account (record { stamp = now (stamp .entry); id = id; state = outcome; error = error })) ⌝ }
+{
+    let held = flat::state_of(state);
+    centre::operations::outcome(book, table, held, stamp, account, id, outcome, error)
+}
+
+#[no_mangle]
+pub extern "C" fn inverook_pick_number(
+    book: &[u8],
+    table: &[u8],
+    state: InverookState,
+    account: usize,
+) -> u8
+    ensures { λ r. ⌜ r ≡ pickedNumber (step (now (book .entry)) (world (stateOf state) (now (table .entry))) (Step.picks account) .answer) ⌝ }
+{
+    let held = flat::state_of(state);
+    centre::operations::pick_number(book, table, held, account)
+}
+
+// Where no record is picked: one past the table's last octet.
+const NOWHERE: usize = 32768;
+
+// A C caller cannot be handed a part of its own table: it gets the octet at which that part starts.
+#[no_mangle]
+pub extern "C" fn inverook_pick_at(
+    book: &[u8],
+    table: &[u8],
+    state: InverookState,
+    account: usize,
+) -> usize
+    ensures { λ r. ⌜ r ≡ pickedAt (pickedNumber (step (now (book .entry)) (world (stateOf state) (now (table .entry))) (Step.picks account) .answer)) account (now (table .entry)) ⌝ }
+{
+    let held = flat::state_of(state);
+    let number = centre::operations::pick_number(book, table, held, account);
+    if number != 0 {
+        return NOWHERE;
+    }
+    let at = 4096 * account;
+    let found = store::search::find_next(&table[at..at + 4096]);
+    match found {
+        Found::At(k) => at + 256 * k,
+        Found::Nowhere => NOWHERE,
+    }
+}
