@@ -1,0 +1,41 @@
+-- Every definition that the centre's `step` is made of, so that an example opens them all by one name.
+use Rattle.octets.specs.Choice.{if_then_else_}
+use Rattle.octets.specs.Number.{onto, octets4, hexDigit, hex8}
+use Rattle.octets.specs.Rows.{rows}
+use Rattle.octets.specs.Stretch.{patch, same, every}
+use Rattle.forms.specs.Class.{lead}
+use Rattle.forms.specs.Field.{textOf, isField}
+use Rattle.forms.specs.Text.{afterSpaces, formed, nibble, messageId}
+use Rattle.forms.specs.Time.{twoDigits, isTime, sentTime, storedTime}
+use Rattle.wire.specs.Cursor.{notBoth, endOf}
+use Rattle.wire.specs.Fields.{octetAt, textAt, addressAt, idAt, timeAt, spanAt, shortAt}
+use Rattle.wire.specs.Frame.{frameOf, headerOf}
+use Rattle.wire.specs.Reply.{header, reply, idText, queryBody, over}
+use Rattle.requests.specs.Bind.{bindOf}
+use Rattle.requests.specs.Submit.{submitOf}
+use Rattle.requests.specs.Query.{queryOf}
+use Rattle.requests.specs.Cancel.{cancelOf}
+use Rattle.requests.specs.Replace.{replaceOf}
+use Rattle.requests.specs.Plain.{plainOf}
+use Rattle.store.specs.Account.{apart, placesOk, accountOk}
+use Rattle.store.specs.Book.{bookOk, usedOk, sameName, sameAddress, named, passwordIs}
+use Rattle.store.specs.Change.{newRecord, finished, retexted, corrected}
+use Rattle.store.specs.Places as Places
+use Rattle.store.specs.Places.{keep, lowest, onPlaces}
+use Rattle.store.specs.Record.{textOk, fieldsOk, endOk, messageOk, recordOk}
+use Rattle.store.specs.Search.{orElse}
+use Rattle.account.specs.Source.{sourceFor, known}
+use Rattle.account.specs.Submit.{added, stored, submitted}
+use Rattle.account.specs.Query.{lookedUp, queried}
+use Rattle.account.specs.Cancel.{cancellable, cancelledOne, deletedIf, cancelledAll, cancelled}
+use Rattle.account.specs.Replace.{replacedIn, replaced}
+use Rattle.account.specs.Outcome.{reported}
+use Rattle.session.specs.State.{opened, closed}
+use Rattle.isolation.specs.Platform.{fresh, step}
+use Rattle.centre.specs.Open.{bindTo, openBind, openCommand, onOpen}
+use Rattle.centre.specs.Bound.{submitTurn, queryTurn, cancelTurn, replaceTurn, unbindTurn, replying, boundCommand, onBound, onOutcome, onPick}
+use Rattle.centre.specs.Centre.{octetsEarly, outcomeEarly, pickEarly, act}
+
+unfoldable pub computed : Unit {0}
+unfolding if_then_else_ onto octets4 hexDigit hex8 rows patch same every lead textOf isField afterSpaces formed nibble messageId twoDigits isTime sentTime storedTime notBoth endOf octetAt textAt addressAt idAt timeAt spanAt shortAt frameOf headerOf header reply idText queryBody over bindOf submitOf queryOf cancelOf replaceOf plainOf apart placesOk accountOk bookOk usedOk sameName sameAddress named passwordIs newRecord finished retexted corrected Places.over keep lowest onPlaces textOk fieldsOk endOk messageOk recordOk orElse sourceFor known added stored submitted lookedUp queried cancellable cancelledOne deletedIf cancelledAll cancelled replacedIn replaced reported opened closed fresh step bindTo openBind openCommand onOpen submitTurn queryTurn cancelTurn replaceTurn unbindTurn replying boundCommand onBound onOutcome onPick octetsEarly outcomeEarly pickEarly act
+computed = tt
