@@ -2,11 +2,10 @@
 use Prim.Native.Nat.{ℕ, _+_, _-_}
 use mathlib.Core.Path.{_≡_, refl}
 use mathlib.Core.List.{List, [], _∷_, _++_}
-use lib.ListN.{length, take, getD, replicate}
+use lib.ListN.{take, getD, replicate}
 use lib.Dec.{eqb}
 use Rattle.octets.specs.Choice.{if_then_else_}
 use Rattle.octets.specs.Rows.{rows}
-use Rattle.forms.specs.declared.text.MessageId.{MessageId}
 use Rattle.forms.specs.declared.text.MessageId.the-variants.{Number}
 use Rattle.wire.specs.Cursor.{start}
 use Rattle.wire.specs.Fields.{idAt}
@@ -26,7 +25,7 @@ use Rattle.twelve.specs.Requests.{words, ended, paging, secret, vma, pla
 
 -- ---- what comes of a step
 
--- a record of the table that is not empty: its place among the 128, its state and its id
+-- a record of the table whose state isn't 0: its place among the 128, and its first five octets, state and id
 pub record Held : Type 0 where
   pub place : ℕ
   pub octets : List ℕ

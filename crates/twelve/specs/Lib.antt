@@ -1,3 +1,4 @@
 pub mod Computed
 pub mod Requests
 pub mod Examples
+pub mod Stored
