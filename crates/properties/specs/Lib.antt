@@ -1,2 +1,3 @@
+pub mod Property1
 pub mod Property2
 pub mod Property3

@@ -1,0 +1,87 @@
+-- A reply with a status other than 0 leaves every stored message and every last id as they were. Assumes nothing.
+use Prim.Native.Nat.{ℕ, _*_}
+use mathlib.Core.Path.{_≡_, refl, ap, _∙_}
+use mathlib.Core.List.{List}
+use lib.Dec.{leb, ltb, eqb}
+use lib.Seq.{set-getD}
+use lib.ListN.{set}
+use Rattle.octets.specs.Number.{onto, octets4}
+use Rattle.octets.specs.Stretch.{patch}
+use Rattle.octets.proofs.StretchLaws.{if-cases}
+use Rattle.octets.proofs.PatchLaws.{patch-none}
+use Rattle.wire.specs.Reply.{header, reply, over}
+use Rattle.store.specs.Book.{bookRecord}
+use Rattle.session.specs.State.{sessionCount, accountCount, entryAt, lastAt}
+use Rattle.session.specs.declared.Entry.{Entry}
+use Rattle.session.specs.declared.Entry.the-variants.{Closed, Open, Transmitter, Receiver, Ended}
+use Rattle.isolation.specs.Platform.{World, partSize, partOf, putPart, octets, Effect, Ran, settle, octetsOf, octetsOn, step}
+use Rattle.centre.specs.Answer.{Octets, Answer, repliedTo}
+use Rattle.centre.specs.Bound.{Turn, replying, isTransmitter}
+use Rattle.centre.specs.Centre.{centre, act}
+use Rattle.wellformed.proofs.Refused.{submitted-refused, cancelled-refused, replaced-refused}
+use Rattle.properties.specs.Property1.{writtenOf, statusOf, Property1}
+use Rattle.properties.proofs.BoundCases.{bound-cases}
+use Rattle.properties.proofs.Refused.{refused-step}
+
+-- a status 0 stands in the reply as 0
+status-zero : (n id status sequence : ℕ) (body space : List ℕ) → status ≡ 0 → statusOf (repliedTo n id status sequence body space) ≡ 0
+unfolding over reply header octets4 onto
+status-zero n id status sequence body space z = rw z
+
+module _ (book : List ℕ) (w : World) (s : ℕ) (x : Octets) where
+  abbrev Kept : Ran Answer → Type 0
+  Kept r = (writtenOf (r .answer) ≡ 0 → ⊥) → (statusOf (r .answer) ≡ 0 → ⊥)
+      → (r .world .table ≡ w .table) × (r .world .state .lasts ≡ w .state .lasts)
+
+  module _ (e : Entry) (a : ℕ) where
+    -- a turn with a status leaves the account as it was
+    abbrev Same : Turn → Type 0
+    Same t = (t .status ≡ 0 → ⊥) → (t .part ≡ partOf a (w .table)) × (t .last ≡ lastAt (w .state) a)
+
+    put-same : (mine : List ℕ) (last : ℕ) → mine ≡ partOf a (w .table) → last ≡ lastAt (w .state) a
+        → (putPart a mine (w .table) ≡ w .table) × (set (w .state .lasts) a last ≡ w .state .lasts)
+    put-same mine last p l = (
+      ap (patch (w .table) (partSize * a)) p ∙ patch-none (w .table) (partSize * a) partSize,
+      ap (set (w .state .lasts) a) l ∙ set-getD (w .state .lasts) a 0,
+    )
+
+    kept-octetsOf : Kept (octetsOf centre book w s x e a)
+    unfolding act replying
+    kept-octetsOf =
+        let mine = partOf a (w .table) in
+        let last = lastAt (w .state) a in
+        let record₀ = bookRecord a book in
+        if-cases Kept (ltb a accountCount) _ _
+        (λ _. bound-cases record₀ x mine last (λ (r : Effect Answer). Kept (settle centre w s e a r)) Same (isTransmitter e)
+        (λ _ _. put-same mine last refl refl)
+        (λ _. record {
+          same = λ _ _ _ _. (refl, refl);
+          submits = λ body. submitted-refused record₀ body mine last;
+          cancels = λ body ne. (cancelled-refused mine record₀ (x .stamp) body ne, refl);
+          replaces = λ body ne. (replaced-refused mine record₀ body ne, refl);
+        })
+        (record {
+          more = λ _ _. put-same mine last refl refl;
+          nak = λ _ _. put-same mine last refl refl;
+          quiet = λ _ _ _. put-same mine last refl refl;
+          replies = λ n id sequence t q _ ne.
+              let kept = q (λ z. ne (status-zero n id (t .status) sequence (t .body) (x .space) z)) in
+              put-same _ _ (kept .0) (kept .1);
+        }))
+        (λ _ _ _. (refl, refl))
+
+  kept-octetsOn : (e : Entry) → Kept (octetsOn centre book w s x e)
+  kept-octetsOn Closed = λ _ _. (refl, refl)
+  kept-octetsOn Open = λ _ _. (refl, refl)
+  kept-octetsOn (Transmitter a) = kept-octetsOf (Transmitter a) a
+  kept-octetsOn (Receiver a) = kept-octetsOf (Receiver a) a
+  kept-octetsOn Ended = λ _ _. (refl, refl)
+
+  kept-step : Kept (step centre book w (octets s x))
+  unfolding step
+  kept-step =
+      if-cases Kept (leb sessionCount s) _ _ (λ _ _ _. (refl, refl)) λ _.
+      if-cases Kept _ _ _ (λ _. kept-octetsOn (entryAt (w .state) s)) (λ _ _ _. (refl, refl))
+
+pub property1 : Property1
+property1 = record { refused = λ book w st. refused-step w book st; kept = kept-step }

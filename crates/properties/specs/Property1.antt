@@ -1,0 +1,45 @@
+-- Every octet stream, in any session state, gets a defined answer, and every call returns (the first property): `step` of crate centre is defined
+-- for every book, world and step, and the code of each call is proved to end with what `step` gives.
+--
+-- Here is what refusals leave as it was: a call refused by number, all that it was lent; a request refused over the protocol, every stored message.
+use Prim.Native.Nat.{ℕ}
+use mathlib.Core.Path.{_≡_}
+use mathlib.Core.List.{List}
+use Rattle.octets.specs.Stretch.{part}
+use Rattle.octets.specs.Number.{number}
+use Rattle.isolation.specs.Platform.{World, Step, opens, closes, octets, outcome, picks, unchanged}
+use Rattle.centre.specs.Answer.{Octets, Outcome, Answer, numbered, taken, picked, refusedOctets, refusedPick}
+use Rattle.centre.specs.Centre.{centre, step}
+
+abbrev pub numberOf : Answer → ℕ
+numberOf (numbered n) = n
+numberOf (taken n consumed written space) = n
+numberOf (picked n r) = n
+
+-- a step's refusal: that number alone; of octets, with nothing consumed or written and the space as it was lent; of a pick, with no record
+abbrev pub refusal : Step Octets Outcome → ℕ → Answer
+refusal (opens s) n = numbered n
+refusal (closes s) n = numbered n
+refusal (octets s x) n = refusedOctets n x
+refusal (outcome a x) n = numbered n
+refusal (picks a) n = refusedPick n
+
+-- how many octets are written, and the command_status that stands in octets 8 to 11 of the reply
+abbrev pub writtenOf : Answer → ℕ
+writtenOf (numbered n) = 0
+writtenOf (taken n consumed written space) = written
+writtenOf (picked n r) = 0
+
+abbrev pub statusOf : Answer → ℕ
+statusOf (numbered n) = 0
+statusOf (taken n consumed written space) = number (part 8 4 space)
+statusOf (picked n r) = 0
+
+pub record Property1 : Type 0 where
+  -- a number other than 0: the step's refusal, and the world unchanged
+  pub refused : (book : List ℕ) (w : World) (st : Step Octets Outcome) → (let r = step book w st in
+      (numberOf (r .answer) ≡ 0 → ⊥) → r ≡ unchanged centre w (refusal st (numberOf (r .answer))))
+  -- a reply with a status other than 0: every stored message and every last id as they were
+  pub kept : (book : List ℕ) (w : World) (s : ℕ) (x : Octets) → (let r = step book w (octets s x) in
+      (writtenOf (r .answer) ≡ 0 → ⊥) → (statusOf (r .answer) ≡ 0 → ⊥)
+      → (r .world .table ≡ w .table) × (r .world .state .lasts ≡ w .state .lasts))
