@@ -2,7 +2,7 @@
 -- the first submission of a session, and one that counts ids for all accounts together.
 use Prim.Native.Nat.{ℕ}
 use mathlib.Core.Path.{_≡_, refl}
-use mathlib.Core.List.{List, [], _∷_, _++_}
+use mathlib.Core.List.{[], _∷_, _++_}
 use lib.ListN.{take, replicate}
 use Rattle.octets.specs.Stretch.{padded}
 use Rattle.store.specs.Places.{recordAt}
