@@ -4,3 +4,6 @@ pub mod Back
 pub mod Unique
 pub mod Refused
 pub mod StatusKept
+pub mod FreshOk
+pub mod Early
+pub mod Healthy

@@ -1,3 +1,4 @@
 pub mod Property1
 pub mod Property2
 pub mod Property3
+pub mod Healthy
