@@ -84,8 +84,9 @@ module _ (book : List ℕ) (x : Octets) (part : List ℕ) (last : ℕ) where
     frame-cases Malformed = answers .nak
     frame-cases (Whole n) = command-cases _ _ _ _
 
-  pub bound-cases : (P : Effect Answer → Type 0) (Q : Turn → Type 0) (transmitter : Bool) → P (keeping (refusedOctets 9 x) part last)
+  pub bound-cases : (P : Effect Answer → Type 0) (Q : Turn → Type 0) (transmitter : Bool)
+      → (accountOk book last part ≡ false → P (keeping (refusedOctets 9 x) part last))
       → (accountOk book last part ≡ true → Turns Q) → Answers P Q → P (onBound transmitter book x part last)
   unfolding onBound
   bound-cases P Q transmitter refused turns answers =
-      if-cases P (accountOk book last part) _ _ (λ ok. frame-cases P Q transmitter (turns ok) answers (frameOf (x .octets))) (λ _. refused)
+      if-cases P (accountOk book last part) _ _ (λ ok. frame-cases P Q transmitter (turns ok) answers (frameOf (x .octets))) refused

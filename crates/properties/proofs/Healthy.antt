@@ -49,7 +49,7 @@ module _ (book part : List ℕ) (last : ℕ) where
         → FineAfter (onBound transmitter book x part last)
     unfolding replying
     bound-fine transmitter x sized sent =
-        bound-cases book x part last FineAfter (λ (t : Turn). Fine book (t .last) (t .part)) transmitter fine
+        bound-cases book x part last FineAfter (λ (t : Turn). Fine book (t .last) (t .part)) transmitter (λ _. fine)
         (λ _. record {
           same = λ _ _ _. fine;
           submits = λ body. record {

@@ -26,7 +26,7 @@ module _ (book part : List ℕ) (last : ℕ) where
   bound-length : (transmitter : Bool) (x : Octets) → Kept (onBound transmitter book x part last)
   unfolding replying
   bound-length transmitter x =
-      bound-cases book x part last Kept (λ (t : Turn). length (t .part) ≡ length part) transmitter refl
+      bound-cases book x part last Kept (λ (t : Turn). length (t .part) ≡ length part) transmitter (λ _. refl)
       (λ _. record {
         same = λ _ _ _. refl;
         submits = λ body. submitted-length book body part last;

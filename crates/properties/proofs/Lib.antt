@@ -7,3 +7,5 @@ pub mod StatusKept
 pub mod FreshOk
 pub mod Early
 pub mod Healthy
+pub mod Numbers
+pub mod First

@@ -28,7 +28,7 @@ use Rattle.properties.proofs.Back.{entry-back, account-back, pick-back}
 use Rattle.properties.proofs.BoundCases.{bound-cases}
 
 -- every PDU on an open session is answered with number 0
-command-zero : (book : List ℕ) (n command sequence : ℕ) (body space : List ℕ) → numberOf (openCommand book n command sequence body space .answer) ≡ 0
+pub command-zero : (book : List ℕ) (n command sequence : ℕ) (body space : List ℕ) → numberOf (openCommand book n command sequence body space .answer) ≡ 0
 unfolding openCommand openBind
 command-zero book n command sequence body space =
     let P : Front Answer → Type 0 = λ f. numberOf (f .answer) ≡ 0 in
@@ -74,7 +74,7 @@ module _ (w : World) where
         if-cases (Refuses (octets s x)) (ltb a accountCount) _ _
         (λ _. bound-cases (bookRecord a book) x (partOf a (w .table)) (lastAt (w .state) a) (λ (r : Effect Answer). Refuses (octets s x) (settle centre w s e a r))
         (λ (t : Turn). Unit) (isTransmitter e)
-        (λ ne. settled-back e h a (A.refusedOctets 9 x))
+        (λ _ ne. settled-back e h a (A.refusedOctets 9 x))
         (λ _. record { same = λ _ _ _. tt; submits = λ _. tt; cancels = λ _. tt; replaces = λ _. tt })
         (record {
           more = λ ne. settled-back e h a (A.refusedOctets 1 x);

@@ -19,9 +19,8 @@ use Rattle.centre.specs.Answer.{Octets, Answer, repliedTo}
 use Rattle.centre.specs.Bound.{Turn, replying, isTransmitter}
 use Rattle.centre.specs.Centre.{centre, act}
 use Rattle.wellformed.proofs.Refused.{submitted-refused, cancelled-refused, replaced-refused}
-use Rattle.properties.specs.Property1.{writtenOf, statusOf, Property1}
+use Rattle.properties.specs.Property1.{writtenOf, statusOf}
 use Rattle.properties.proofs.BoundCases.{bound-cases}
-use Rattle.properties.proofs.Refused.{refused-step}
 
 -- a status 0 stands in the reply as 0
 status-zero : (n id status sequence : ℕ) (body space : List ℕ) → status ≡ 0 → statusOf (repliedTo n id status sequence body space) ≡ 0
@@ -53,7 +52,7 @@ module _ (book : List ℕ) (w : World) (s : ℕ) (x : Octets) where
         let record₀ = bookRecord a book in
         if-cases Kept (ltb a accountCount) _ _
         (λ _. bound-cases record₀ x mine last (λ (r : Effect Answer). Kept (settle centre w s e a r)) Same (isTransmitter e)
-        (λ _ _. put-same mine last refl refl)
+        (λ _ _ _. put-same mine last refl refl)
         (λ _. record {
           same = λ _ _ _ _. (refl, refl);
           submits = λ body. submitted-refused record₀ body mine last;
@@ -77,11 +76,8 @@ module _ (book : List ℕ) (w : World) (s : ℕ) (x : Octets) where
   kept-octetsOn (Receiver a) = kept-octetsOf (Receiver a) a
   kept-octetsOn Ended = λ _ _. (refl, refl)
 
-  kept-step : Kept (step centre book w (octets s x))
+  pub kept-step : Kept (step centre book w (octets s x))
   unfolding step
   kept-step =
       if-cases Kept (leb sessionCount s) _ _ (λ _ _ _. (refl, refl)) λ _.
       if-cases Kept _ _ _ (λ _. kept-octetsOn (entryAt (w .state) s)) (λ _ _ _. (refl, refl))
-
-pub property1 : Property1
-property1 = record { refused = λ book w st. refused-step w book st; kept = kept-step }

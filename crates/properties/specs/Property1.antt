@@ -1,10 +1,12 @@
 -- Every octet stream, in any session state, gets a defined answer, and every call returns (the first property): `step` of crate centre is defined
 -- for every book, world and step, and the code of each call is proved to end with what `step` gives.
 --
--- Here is what refusals leave as it was: a call refused by number, all that it was lent; a request refused over the protocol, every stored message.
+-- Here is which numbers there are, and what refusals leave as it was: a call refused by number, all that it was lent; a request refused over the protocol, every stored message.
 use Prim.Native.Nat.{ℕ}
 use mathlib.Core.Path.{_≡_}
-use mathlib.Core.List.{List}
+use mathlib.Core.Bool.{Bool, true, false, _||_}
+use mathlib.Core.List.{List, [], _∷_}
+use lib.Dec.{eqb}
 use Rattle.octets.specs.Stretch.{part}
 use Rattle.octets.specs.Number.{number}
 use Rattle.isolation.specs.Platform.{World, Step, opens, closes, octets, outcome, picks, unchanged}
@@ -35,7 +37,20 @@ statusOf (numbered n) = 0
 statusOf (taken n consumed written space) = number (part 8 4 space)
 statusOf (picked n r) = 0
 
+-- the numbers of each kind of step
+abbrev pub numbersOf : Step Octets Outcome → List ℕ
+numbersOf (opens s) = 0 ∷ 2 ∷ 6 ∷ []
+numbersOf (closes s) = 0 ∷ 2 ∷ []
+numbersOf (octets s x) = 0 ∷ 1 ∷ 2 ∷ 3 ∷ 4 ∷ 5 ∷ 6 ∷ 9 ∷ []
+numbersOf (outcome a x) = 0 ∷ 3 ∷ 5 ∷ 7 ∷ 8 ∷ 9 ∷ 10 ∷ []
+numbersOf (picks a) = 0 ∷ 3 ∷ 7 ∷ 9 ∷ 11 ∷ []
+
+abbrev pub among : ℕ → List ℕ → Bool
+among n [] = false
+among n (k ∷ ks) = eqb n k || among n ks
+
 pub record Property1 : Type 0 where
+  pub defined : (book : List ℕ) (w : World) (st : Step Octets Outcome) → among (numberOf (step book w st .answer)) (numbersOf st) ≡ true
   -- a number other than 0: the step's refusal, and the world unchanged
   pub refused : (book : List ℕ) (w : World) (st : Step Octets Outcome) → (let r = step book w st in
       (numberOf (r .answer) ≡ 0 → ⊥) → r ≡ unchanged centre w (refusal st (numberOf (r .answer))))
