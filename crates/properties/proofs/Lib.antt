@@ -6,6 +6,9 @@ pub mod Refused
 pub mod StatusKept
 pub mod FreshOk
 pub mod Early
-pub mod Healthy
+pub mod AccountsOk
 pub mod Numbers
 pub mod First
+pub mod Named
+pub mod Entries
+pub mod Healthy

@@ -7,13 +7,23 @@ use Rattle.store.specs.Book.{bookRecord, usedOk}
 use Rattle.store.specs.Account.{accountOk}
 use Rattle.session.specs.State.{accountCount, lastAt}
 use Rattle.isolation.specs.Platform.{World, fresh, partOf, Step}
+use Rattle.isolation.specs.Platform as P
 use Rattle.isolation.specs.History.{after}
 use Rattle.centre.specs.Answer.{Octets, Outcome}
-use Rattle.centre.specs.Centre.{centre}
+use Rattle.centre.specs.Centre.{centre, step}
+use Rattle.properties.specs.Property1.{numberOf}
 
 abbrev pub wellFormed : List ℕ → World → ℕ → Type 0
 wellFormed book w a = accountOk (bookRecord a book) (lastAt (w .state) a) (partOf a (w .table)) ≡ true
 
-abbrev pub Healthy : Type 0
-Healthy = (book : List ℕ) (hs : List (Step Octets Outcome)) (a : ℕ) → a < accountCount → usedOk (bookRecord a book) ≡ true
-    → wellFormed book (after centre book fresh hs) a
+pub record Healthy : Type 0 where
+  pub stays : (book : List ℕ) (hs : List (Step Octets Outcome)) (a : ℕ) → a < accountCount → usedOk (bookRecord a book) ≡ true
+      → wellFormed book (after centre book fresh hs) a
+  -- so number 9 never comes from the centre's own writes: never for octets, since a session is only ever bound to such an account, and for an
+  -- outcome or a pick only where the book record is at fault
+  pub octets : (book : List ℕ) (hs : List (Step Octets Outcome)) (s : ℕ) (x : Octets)
+      → numberOf (step book (after centre book fresh hs) (P.octets s x) .answer) ≡ 9 → ⊥
+  pub outcome : (book : List ℕ) (hs : List (Step Octets Outcome)) (a : ℕ) (x : Outcome) → a < accountCount → usedOk (bookRecord a book) ≡ true
+      → numberOf (step book (after centre book fresh hs) (P.outcome a x) .answer) ≡ 9 → ⊥
+  pub picks : (book : List ℕ) (hs : List (Step Octets Outcome)) (a : ℕ) → a < accountCount → usedOk (bookRecord a book) ≡ true
+      → numberOf (step book (after centre book fresh hs) (P.picks a) .answer) ≡ 9 → ⊥

@@ -1,0 +1,173 @@
+-- From a fresh platform, an account with a used and well-formed book record stays well formed: each effect leaves its own account so, and
+-- another's as it was. Assumes nothing.
+use Prim.Native.Nat.{ℕ, _*_, _≤_, _<_}
+use native.Mathlib.Omega.{arith}
+use mathlib.Core.Path.{_≡_, refl, sym, ap, subst, _∙_}
+use mathlib.Core.Bool.{Bool, true, false, not, _||_, false≢true}
+use mathlib.Core.List.{List, [], _∷_}
+use lib.Dec.{leb, ltb, eqb}
+use lib.ListN.{length, replicate}
+use borrow.Author.Tests.{ltb-true, eqb-true, eqb-false, not-false}
+use Rattle.octets.proofs.StretchLaws.{if-cases, part-length}
+use Rattle.forms.specs.Time.{sentTime}
+use Rattle.store.specs.Book.{bookSize, bookRecord, bookRecordSize, usedOk}
+use Rattle.store.specs.Account.{accountOk}
+use Rattle.session.specs.State.{sessionCount, accountCount, entryAt, lastAt, opened, openedFrom, closed}
+use Rattle.session.specs.declared.Entry.{Entry}
+use Rattle.session.specs.declared.Entry.the-variants.{Closed, Open, Transmitter, Receiver, Ended}
+use Rattle.session.specs.declared.Moved.{Moved}
+use Rattle.isolation.specs.Platform.{partSize, tableSize, World, fresh, partOf, Step, opens, closes, octets, outcome, picks, Request, taken, reported, Effect, Ran, ask, put, putEntry, move, octetsOf, octetsOn, step}
+use Rattle.isolation.specs.History.{after}
+use Rattle.isolation.proofs.Sizes.{Sized, sized-fresh, sized-step, sized-entry, asked-length}
+use Rattle.isolation.proofs.Views.{View, view, view-own, view-other}
+use Rattle.centre.specs.Answer.{Octets, Outcome, Answer}
+use Rattle.centre.specs.Bound.{Turn, replying, isTransmitter, onBound, outcomeOk, onOutcome}
+use Rattle.centre.specs.Centre.{centre, act, earlyOctets, earlyOutcome}
+use Rattle.wellformed.proofs.Accounts.{submitted-ok, cancelled-ok, replaced-ok, reported-ok}
+use Rattle.wellformed.proofs.GoodPartIs.{good-account}
+use Rattle.wellformed.proofs.Issued.{issued-bits}
+use Rattle.properties.proofs.BoundCases.{bound-cases}
+use Rattle.properties.proofs.Early.{early-octets, early-outcome}
+use Rattle.properties.proofs.FreshOk.{zeros-replicate, zeros-part, zeros-at, zeros-good}
+use Rattle.properties.proofs.Isolated.{keeps}
+use Rattle.properties.proofs.Unique.{property2}
+
+-- ---- one account, asked: well formed, with a last id of 32 bits
+
+pub record Fine (book : List ℕ) (last : ℕ) (part : List ℕ) : Type 0 where
+  pub ok : accountOk book last part ≡ true
+  pub bits : last ≤ 0xFFFFFFFF
+
+module _ (book part : List ℕ) (last : ℕ) where
+  abbrev FineAfter : Effect Answer → Type 0
+  FineAfter e = Fine book (e .last) (e .part)
+
+  module _ (whole : length part ≡ partSize) (fine : Fine book last part) where
+    bound-fine : (transmitter : Bool) (x : Octets) → length book ≡ bookRecordSize → sentTime (x .stamp) ≡ true
+        → FineAfter (onBound transmitter book x part last)
+    unfolding replying
+    bound-fine transmitter x sized sent =
+        bound-cases book x part last FineAfter (λ (t : Turn). Fine book (t .last) (t .part)) transmitter (λ _. fine)
+        (λ _. record {
+          same = λ _ _ _. fine;
+          submits = λ body. record {
+            ok = submitted-ok book part last whole (fine .ok) sized (fine .bits) body;
+            bits = issued-bits book body part last (fine .bits);
+          };
+          cancels = λ body. record { ok = cancelled-ok book part last whole (fine .ok) (x .stamp) sent body; bits = fine .bits };
+          replaces = λ body. record { ok = replaced-ok book part last whole (fine .ok) body; bits = fine .bits };
+        })
+        (record { more = fine; nak = fine; quiet = λ _. fine; replies = λ _ _ _ _ q. q })
+
+    outcome-fine : (x : Outcome) → sentTime (x .stamp) ≡ true → FineAfter (onOutcome book x part last)
+    unfolding onOutcome
+    outcome-fine x sent =
+        if-cases FineAfter (not (outcomeOk (x .state))) _ _ (λ _. fine) λ t.
+        let s = state-is (x .state) (not-false (outcomeOk (x .state)) t) in
+        if-cases FineAfter (not (accountOk book last part)) _ _ (λ _. fine) λ _.
+        record {
+          ok = reported-ok book part last whole (fine .ok) (x .stamp) sent (x .id) (x .state) (x .error) (s .0) (s .1) (s .2);
+          bits = fine .bits;
+        }
+      where
+        by : (a b c : Bool) (n : ℕ) → eqb n 2 ≡ a → eqb n 3 ≡ b → eqb n 5 ≡ c → (a || b || c) ≡ true → (2 ≤ n) × (n ≤ 5) × (n ≡ 4 → ⊥)
+        by true b c n p q r h = let e = eqb-true n 2 p in (omega arith, omega arith, λ four. omega arith)
+        by false true c n p q r h = let e = eqb-true n 3 q in (omega arith, omega arith, λ four. omega arith)
+        by false false true n p q r h = let e = eqb-true n 5 r in (omega arith, omega arith, λ four. omega arith)
+        by false false false n p q r h = absurd (false≢true h)
+
+        state-is : (n : ℕ) → outcomeOk n ≡ true → (2 ≤ n) × (n ≤ 5) × (n ≡ 4 → ⊥)
+        state-is n h = by (eqb n 2) (eqb n 3) (eqb n 5) n refl refl refl h
+
+-- ---- account A in a world
+
+module _ (book : List ℕ) (A : ℕ) (below : A < accountCount) where
+  record-sized : length book ≡ bookSize → length (bookRecord A book) ≡ bookRecordSize
+  record-sized e = part-length (bookRecordSize * A) bookRecordSize book (omega arith)
+
+  abbrev FineIn : World → Type 0
+  FineIn w = Fine (bookRecord A book) (lastAt (w .state) A) (partOf A (w .table))
+
+  abbrev FineRan : Ran Answer → Type 0
+  FineRan r = FineIn (r .world)
+
+  abbrev Seen : View → Type 0
+  Seen v = Fine (bookRecord A book) (v .last) (v .part)
+
+  -- what account a gives is put into u
+  put-fine : (u : World) → Sized u → FineIn u → (a : ℕ) (r : Effect Answer) → length (r .part) ≡ partSize
+      → (a ≡ A → Fine (bookRecord A book) (r .last) (r .part)) → FineRan (put centre u a r)
+  put-fine u z fine a r l own = by (eqb a A) refl
+    where
+      by : (t : Bool) → eqb a A ≡ t → FineRan (put centre u a r)
+      by true e =
+          let same = eqb-true a A e in
+          subst (λ (i : ℕ). FineRan (put centre u i r)) (sym same) (subst Seen (sym (view-own centre A u z r l below)) (own same))
+      by false e = subst Seen (sym (view-other centre A u a r l (λ p. eqb-false a A e (sym p)))) fine
+
+  module _ (w : World) (z : Sized w) (fine : FineIn w) where
+    whole : length (partOf A (w .table)) ≡ partSize
+    whole = part-length (partSize * A) partSize (w .table) (omega (arith, z .table))
+
+    asked-fine : (a : ℕ) (q : Request Octets Outcome) → (let r = ask centre book w A q in Fine (bookRecord A book) (r .last) (r .part))
+        → (u : World) → Sized u → FineIn u → a < accountCount → FineRan (put centre u a (ask centre book w a q))
+    asked-fine a q own u y f l =
+        put-fine u y f a (ask centre book w a q) (asked-length centre book w z keeps a q l)
+        (λ same. subst (λ (i : ℕ). let r = ask centre book w i q in Fine (bookRecord A book) (r .last) (r .part)) (sym same) own)
+
+    fine-opened : (s : ℕ) (e : Entry) → FineRan (move centre w (openedFrom (w .state) s e))
+    fine-opened s Closed = fine
+    fine-opened s Open = fine
+    fine-opened s (Transmitter a) = fine
+    fine-opened s (Receiver a) = fine
+    fine-opened s Ended = fine
+
+    module _ (s : ℕ) (x : Octets) (fits : (length book ≡ bookSize) × (sentTime (x .stamp) ≡ true)) where
+      fine-octetsOf : (e : Entry) (a : ℕ) → FineRan (octetsOf centre book w s x e a)
+      unfolding act
+      fine-octetsOf e a =
+          if-cases FineRan (ltb a accountCount) _ _
+          (λ t. asked-fine a (taken e x) (bound-fine _ _ _ whole fine (isTransmitter e) x (record-sized (fits .0)) (fits .1))
+          (putEntry centre w s e) (sized-entry centre w z s e) fine (ltb-true a accountCount t))
+          (λ _. fine)
+
+      fine-octetsOn : (e : Entry) → FineRan (octetsOn centre book w s x e)
+      fine-octetsOn Closed = fine
+      fine-octetsOn Open = fine
+      fine-octetsOn (Transmitter a) = fine-octetsOf (Transmitter a) a
+      fine-octetsOn (Receiver a) = fine-octetsOf (Receiver a) a
+      fine-octetsOn Ended = fine
+
+    fine-step : (st : Step Octets Outcome) → FineRan (step centre book w st)
+    unfolding step act opened closed
+    fine-step (opens s) =
+        if-cases (λ (r : Moved). FineRan (move centre w r)) (leb sessionCount s) _ _ (λ _. fine) (λ _. fine-opened s (entryAt (w .state) s))
+    fine-step (closes s) = if-cases (λ (r : Moved). FineRan (move centre w r)) (leb sessionCount s) _ _ (λ _. fine) (λ _. fine)
+    fine-step (octets s x) =
+        let early = earlyOctets book (length (w .table)) x in
+        if-cases FineRan (leb sessionCount s) _ _ (λ _. fine) λ _.
+        if-cases FineRan (eqb early 0) _ _ (λ t. fine-octetsOn s x (early-octets _ _ _ _ (eqb-true early 0 t)) (entryAt (w .state) s)) (λ _. fine)
+    fine-step (outcome a x) =
+        let early = earlyOutcome book (length (w .table)) x in
+        if-cases FineRan (eqb early 0) _ _
+        (λ t. if-cases FineRan (ltb a accountCount) _ _
+        (λ l. asked-fine a (reported x) (outcome-fine _ _ _ whole fine x (early-outcome _ _ _ (eqb-true early 0 t) .1)) w z fine (ltb-true a accountCount l))
+        (λ _. fine))
+        (λ _. fine)
+    fine-step (picks a) = subst FineRan (sym (property2 .picking book w a)) fine
+
+  fine-after : (hs : List (Step Octets Outcome)) (w : World) → Sized w → FineIn w → FineIn (after centre book w hs)
+  fine-after [] w z fine = fine
+  fine-after (st ∷ hs) w z fine = fine-after hs _ (sized-step centre book w z st) (fine-step w z fine st)
+
+  fine-fresh : usedOk (bookRecord A book) ≡ true → FineIn fresh
+  unfolding fresh
+  fine-fresh used =
+      let z = zeros-at (replicate accountCount 0) A (zeros-replicate accountCount) in
+      record {
+        ok = good-account _ _ _ used (zeros-good _ _ (zeros-part (partSize * A) partSize (replicate tableSize 0) (zeros-replicate tableSize)));
+        bits = omega (arith, z);
+      }
+
+  pub fine-history : (hs : List (Step Octets Outcome)) → usedOk (bookRecord A book) ≡ true → FineIn (after centre book fresh hs)
+  fine-history hs used = fine-after hs fresh sized-fresh (fine-fresh used)

@@ -1,0 +1,154 @@
+-- From a fresh platform, a session is only ever bound to an account with a used and well-formed book record. Assumes nothing.
+use Prim.Native.Nat.{ℕ, zero, suc, _<_}
+use mathlib.Core.Path.{_≡_, refl, sym, subst, _∙_}
+use mathlib.Core.Bool.{Bool, true, false, not, false≢true}
+use mathlib.Core.List.{List, [], _∷_}
+use lib.Dec.{leb, ltb, eqb}
+use lib.ListN.{getD, set, length}
+use lib.ListN as L
+use borrow.Author.Tests.{eqb-true}
+use Rattle.octets.specs.Choice.{if_then_else_}
+use Rattle.octets.proofs.StretchLaws.{if-cases}
+use Rattle.wire.specs.Status.{invalidPassword}
+use Rattle.wire.specs.Fields.{octetsOf}
+use Rattle.wire.specs.Frame.{frameOf}
+use Rattle.wire.specs.declared.frame.Frame.{Frame}
+use Rattle.wire.specs.declared.frame.Frame.the-variants.{More, Malformed, Whole}
+use Rattle.requests.specs.Bind.{bindOf}
+use Rattle.store.specs.Book.{bookRecord, usedOk, passwordIs}
+use Rattle.store.specs.Search.{namedPlace}
+use Rattle.session.specs.State.{sessionCount, accountCount, closedSession, entryAt, opened, openedFrom, closed}
+use Rattle.session.specs.declared.Entry.{Entry}
+use Rattle.session.specs.declared.Entry.the-variants.{Closed, Open, Transmitter, Receiver, Ended}
+use Rattle.session.specs.declared.Moved.{Moved}
+use Rattle.session.specs.declared.Session.{Session}
+use Rattle.isolation.specs.Platform.{World, fresh, Step, opens, closes, octets, outcome, picks, Front, Ran, ask, taken, move, octetsOn, step}
+use Rattle.isolation.specs.Platform as P
+use Rattle.isolation.specs.History.{boundTo, after}
+use Rattle.centre.specs.Answer.{Octets, Outcome, Answer}
+use Rattle.centre.specs.Open.{notBound, legOf, bindTo, openBind, openCommand, openFrame, onOpen}
+use Rattle.centre.specs.declared.open.Bound.{Bound}
+use Rattle.centre.specs.Centre.{centre, earlyOctets, earlyOutcome, earlyPick}
+use Rattle.wellformed.proofs.Cases.{found-cases, read-cases}
+use Rattle.properties.proofs.Named.{named-used}
+
+-- what holds of every session holds still, once one is put of which it holds
+set-each : (H : Session → Type 0) (xs : List Session) (i : ℕ) (y : Session) → H y → ((j : ℕ) → H (getD xs j closedSession))
+    → (j : ℕ) → H (getD (set xs i y) j closedSession)
+set-each H [] i y p h j = h j
+set-each H (x ∷ xs) zero y p h zero = p
+set-each H (x ∷ xs) zero y p h (suc j) = h (suc j)
+set-each H (x ∷ xs) (suc i) y p h zero = h zero
+set-each H (x ∷ xs) (suc i) y p h (suc j) = set-each H xs i y p (λ k. h (suc k)) j
+
+module _ (book : List ℕ) where
+  -- an entry's account, if it has one
+  pub record Used (a : ℕ) : Type 0 where
+    pub below : a < accountCount
+    pub used : usedOk (bookRecord a book) ≡ true
+
+  abbrev pub Leads : Entry → Type 0
+  Leads e = (a : ℕ) → boundTo a e ≡ true → Used a
+
+  unbound : (e : Entry) → ((a : ℕ) → boundTo a e ≡ false) → Leads e
+  unbound e h a t = absurd (false≢true (sym (h a) ∙ t))
+
+  -- ---- octets on an open session
+
+  leg-leads : (receiver : Bool) (a : ℕ) → Used a → Leads (legOf receiver a)
+  leg-leads true a u b t = subst Used (eqb-true a b t) u
+  leg-leads false a u b t = subst Used (eqb-true a b t) u
+
+  bind-leads : (receiver : Bool) (body : List ℕ) → Leads (bindTo receiver book body .entry)
+  unfolding bindTo
+  bind-leads receiver body =
+      let Q : Bound → Type 0 = λ b. Leads (b .entry) in
+      let b = bindOf body .request in
+      let refused : Leads Open = unbound Open (λ _. refl) in
+      read-cases Q (bindOf body .status) _ _ (λ _. refused) λ _.
+      found-cases Q (namedPlace (octetsOf (b .system) body) (octetsOf (b .kind) body) book)
+      (λ a. if passwordIs (octetsOf (b .password) body) (bookRecord a book) then record { status = 0; entry = legOf receiver a } else notBound invalidPassword)
+      (notBound invalidPassword)
+      (λ a e. let n = named-used _ _ book a e in
+      if-cases Q (passwordIs (octetsOf (b .password) body) (bookRecord a book)) _ _ (λ _. leg-leads receiver a (record { below = n .0; used = n .1 })) (λ _. refused))
+      (λ _. refused)
+
+  command-leads : (n command sequence : ℕ) (body space : List ℕ) → Leads (openCommand book n command sequence body space .after)
+  unfolding openCommand openBind
+  command-leads n command sequence body space =
+      let Q : Front Answer → Type 0 = λ f. Leads (f .after) in
+      let stays : Leads Open = unbound Open (λ _. refl) in
+      if-cases Q _ _ _ (λ _. bind-leads true body) λ _.
+      if-cases Q _ _ _ (λ _. bind-leads false body) λ _.
+      if-cases Q _ _ _ (λ _. stays) λ _.
+      if-cases Q _ _ _ (λ _. stays) λ _.
+      if-cases Q _ _ _ (λ _. stays) λ _.
+      if-cases Q _ _ _ (λ _. stays) λ _.
+      if-cases Q _ _ _ (λ _. stays) λ _.
+      if-cases Q _ _ _ (λ _. stays) λ _.
+      if-cases Q _ _ _ (λ _. stays) λ _. stays
+
+  frame-leads : (os space : List ℕ) (frame : Frame) → Leads (openFrame book os space frame .after)
+  frame-leads os space More = unbound Open (λ _. refl)
+  frame-leads os space Malformed = unbound Ended (λ _. refl)
+  frame-leads os space (Whole n) = command-leads _ _ _ _ _
+
+  -- ---- steps
+
+  abbrev pub AllLead : World → Type 0
+  AllLead w = (s : ℕ) → Leads (entryAt (w .state) s)
+
+  abbrev AllAfter : Ran Answer → Type 0
+  AllAfter r = AllLead (r .world)
+
+  module _ (w : World) (h : AllLead w) where
+    put-lead : (s : ℕ) (e : Entry) → Leads e → AllLead (P.putEntry centre w s e)
+    put-lead s e l = set-each (λ ses. Leads (ses .entry)) (w .state .sessions) s (record { entry = e }) l h
+
+    opened-lead : (s : ℕ) (e : Entry) → AllAfter (move centre w (openedFrom (w .state) s e))
+    opened-lead s Closed = put-lead s Open (unbound Open (λ _. refl))
+    opened-lead s Open = h
+    opened-lead s (Transmitter a) = h
+    opened-lead s (Receiver a) = h
+    opened-lead s Ended = h
+
+    octetsOf-lead : (s : ℕ) (x : Octets) (e : Entry) (a : ℕ) → Leads e → AllAfter (P.octetsOf centre book w s x e a)
+    octetsOf-lead s x e a l =
+        if-cases AllAfter (ltb a accountCount) _ _
+        (λ _. put-lead s _ (if-cases Leads (ask centre book w a (taken e x) .ends) Ended e (λ _. unbound Ended (λ _. refl)) (λ _. l)))
+        (λ _. h)
+
+    octetsOn-lead : (s : ℕ) (x : Octets) (e : Entry) → Leads e → AllAfter (octetsOn centre book w s x e)
+    unfolding onOpen
+    octetsOn-lead s x Closed l = h
+    octetsOn-lead s x Open l = put-lead s _ (frame-leads (x .octets) (x .space) (frameOf (x .octets)))
+    octetsOn-lead s x (Transmitter a) l = octetsOf-lead s x (Transmitter a) a l
+    octetsOn-lead s x (Receiver a) l = octetsOf-lead s x (Receiver a) a l
+    octetsOn-lead s x Ended l = h
+
+    step-lead : (st : Step Octets Outcome) → AllAfter (step centre book w st)
+    unfolding step opened closed
+    step-lead (opens s) =
+        if-cases (λ (r : Moved). AllAfter (move centre w r)) (leb sessionCount s) _ _ (λ _. h) (λ _. opened-lead s (entryAt (w .state) s))
+    step-lead (closes s) =
+        if-cases (λ (r : Moved). AllAfter (move centre w r)) (leb sessionCount s) _ _ (λ _. h) (λ _. put-lead s Closed (unbound Closed (λ _. refl)))
+    step-lead (octets s x) =
+        if-cases AllAfter (leb sessionCount s) _ _ (λ _. h) λ _.
+        if-cases AllAfter (eqb (earlyOctets book (length (w .table)) x) 0) _ _ (λ _. octetsOn-lead s x (entryAt (w .state) s) (h s)) (λ _. h)
+    step-lead (outcome a x) =
+        if-cases AllAfter (eqb (earlyOutcome book (length (w .table)) x) 0) _ _ (λ _. if-cases AllAfter (ltb a accountCount) _ _ (λ _. h) (λ _. h)) (λ _. h)
+    step-lead (picks a) =
+        if-cases AllAfter (eqb (earlyPick book (length (w .table))) 0) _ _ (λ _. if-cases AllAfter (ltb a accountCount) _ _ (λ _. h) (λ _. h)) (λ _. h)
+
+  after-lead : (hs : List (Step Octets Outcome)) (w : World) → AllLead w → AllLead (after centre book w hs)
+  after-lead [] w h = h
+  after-lead (st ∷ hs) w h = after-lead hs _ (step-lead w h st)
+
+  fresh-lead : (n s : ℕ) → Leads (getD (L.replicate n closedSession) s closedSession .entry)
+  fresh-lead zero s = unbound Closed (λ _. refl)
+  fresh-lead (suc n) zero = unbound Closed (λ _. refl)
+  fresh-lead (suc n) (suc s) = fresh-lead n s
+
+  pub history-lead : (hs : List (Step Octets Outcome)) → AllLead (after centre book fresh hs)
+  unfolding fresh
+  history-lead hs = after-lead hs fresh (fresh-lead sessionCount)
