@@ -12,3 +12,4 @@ pub mod First
 pub mod Named
 pub mod Entries
 pub mod Healthy
+pub mod Longest

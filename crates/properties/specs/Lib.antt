@@ -1,4 +1,5 @@
 pub mod Property1
+pub mod Longest
 pub mod Property2
 pub mod Property3
 pub mod Healthy

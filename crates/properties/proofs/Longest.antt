@@ -1,0 +1,151 @@
+-- No reply is longer than 44 octets: its body has at most 28, a query's being the longest. Assumes nothing.
+use mathlib.Core.Path.{_≡_}
+use mathlib.Core.Bool.{Bool}
+use mathlib.Core.List.{List, []}
+use Prim.Native.Nat.{ℕ, _≤_}
+use native.Mathlib.Omega.{arith}
+use lib.ListN.{length, length-take}
+use Rattle.octets.proofs.StretchLaws.{if-cases}
+use Rattle.forms.specs.Field.{textOf}
+use Rattle.forms.proofs.TextLaws.{textOf-within}
+use Rattle.wire.specs.Frame.{frameOf}
+use Rattle.wire.specs.Reply.{over}
+use Rattle.wire.specs.declared.frame.Frame.{Frame}
+use Rattle.wire.specs.declared.frame.Frame.the-variants.{More, Malformed, Whole}
+use Rattle.wire.proofs.ReplyLaws.{reply-length, idText-within, queryBody-length}
+use Rattle.forms.specs.declared.text.MessageId.the-variants.{Empty, Number}
+use Rattle.store.specs.Layout.{stateOf, idOf, dateOf, errorOf}
+use Rattle.store.specs.Places.{recordAt}
+use Rattle.account.specs.Query.{queried}
+use Rattle.account.specs.Submit.{submitted}
+use Rattle.session.specs.State.{entryAt}
+use Rattle.session.specs.declared.Entry.{Entry}
+use Rattle.session.specs.declared.Entry.the-variants.{Closed, Open, Transmitter, Receiver, Ended}
+use Rattle.isolation.specs.Platform.{World, Effect, Front, Ran, octetsOn, step}
+use Rattle.wellformed.proofs.Cases.{found-cases}
+use Rattle.centre.specs.Answer.{Octets, Answer, repliedTo}
+use Rattle.centre.specs.Open.{openBind, openCommand, openFrame, onOpen}
+use Rattle.centre.specs.Bound.{Turn, refusing, noQuery, foundBody, wireState, submitTurn, queryTurn, cancelTurn, replaceTurn, unbindTurn, replying, boundCommand, boundFrame, onBound}
+use Rattle.centre.specs.Centre.{centre, act}
+use Rattle.properties.specs.Property1.{writtenOf}
+use Rattle.properties.specs.Longest.{Longest}
+
+abbrev Short : Answer → Type 0
+Short answer = writtenOf answer ≤ 44
+
+short-reply : (n id status sequence : ℕ) (body space : List ℕ) → length body ≤ 28 → Short (repliedTo n id status sequence body space)
+unfolding over
+short-reply n id status sequence body space h = omega (arith, reply-length id status sequence body)
+
+-- ---- bodies
+
+Brief : Turn → Type 0
+Brief t = length (t .body) ≤ 28
+
+found-brief : (r : List ℕ) → length (foundBody r) ≤ 28
+found-brief r =
+    omega (arith, queryBody-length (Number (idOf r)) (textOf (dateOf r)) (wireState (stateOf r)) (errorOf r), idText-within (Number (idOf r)), simp length-take at (textOf-within (dateOf r)))
+
+none-brief : length noQuery ≤ 28
+none-brief = omega (arith, queryBody-length Empty [] 0 0, idText-within Empty)
+
+module _ (transmitter : Bool) (book stamp body part : List ℕ) (last : ℕ) where
+  query-brief : Brief (queryTurn transmitter book body part last)
+  unfolding queryTurn Brief
+  query-brief =
+      let q = queried book body part in
+      if-cases Brief _ _ _
+      (λ _. found-cases Brief (q .place) (λ k. refusing (q .status) (foundBody (recordAt k part)) part last) (refusing (q .status) noQuery part last)
+      (λ k _. found-brief (recordAt k part)) (λ _. none-brief))
+      (λ _. none-brief)
+
+  submit-brief : Brief (submitTurn transmitter book body part last)
+  unfolding submitTurn Brief
+  submit-brief =
+      if-cases Brief _ _ _ (λ _. omega (arith, idText-within (submitted book body part last .id))) (λ _. omega (arith, idText-within Empty))
+
+  cancel-brief : Brief (cancelTurn transmitter book stamp body part last)
+  unfolding cancelTurn Brief
+  cancel-brief = if-cases Brief _ _ _ (λ _. omega arith) (λ _. omega arith)
+
+  replace-brief : Brief (replaceTurn transmitter book body part last)
+  unfolding replaceTurn Brief
+  replace-brief = if-cases Brief _ _ _ (λ _. omega arith) (λ _. omega arith)
+
+  unbind-brief : Brief (unbindTurn body part last)
+  unfolding unbindTurn Brief
+  unbind-brief = omega arith
+
+-- ---- answers of an account, and of an open session
+
+abbrev ShortEffect : Effect Answer → Type 0
+ShortEffect e = Short (e .answer)
+
+abbrev ShortFront : Front Answer → Type 0
+ShortFront f = Short (f .answer)
+
+short-turn : (n id sequence : ℕ) (t : Turn) (space : List ℕ) → Brief t → ShortEffect (replying n id sequence t space)
+unfolding replying Brief
+short-turn n id sequence t space h = short-reply n id (t .status) sequence (t .body) space h
+
+short-bound : (transmitter : Bool) (book stamp : List ℕ) (n command sequence : ℕ) (body space part : List ℕ) (last : ℕ)
+    → ShortEffect (boundCommand transmitter book stamp n command sequence body space part last)
+unfolding boundCommand Brief
+short-bound transmitter book stamp n command sequence body space part last =
+    if-cases ShortEffect _ _ _ (λ _. short-turn n _ sequence _ space (omega arith)) λ _.
+    if-cases ShortEffect _ _ _ (λ _. short-turn n _ sequence _ space (omega arith)) λ _.
+    if-cases ShortEffect _ _ _ (λ _. short-turn n _ sequence _ space (query-brief transmitter book stamp body part last)) λ _.
+    if-cases ShortEffect _ _ _ (λ _. short-turn n _ sequence _ space (submit-brief transmitter book stamp body part last)) λ _.
+    if-cases ShortEffect _ _ _ (λ _. short-turn n _ sequence _ space (unbind-brief transmitter book stamp body part last)) λ _.
+    if-cases ShortEffect _ _ _ (λ _. short-turn n _ sequence _ space (replace-brief transmitter book stamp body part last)) λ _.
+    if-cases ShortEffect _ _ _ (λ _. short-turn n _ sequence _ space (cancel-brief transmitter book stamp body part last)) λ _.
+    if-cases ShortEffect _ _ _ (λ _. short-turn n _ sequence _ space (omega arith)) λ _.
+    if-cases ShortEffect _ _ _ (λ _. omega arith) λ _. short-turn n _ sequence _ space (omega arith)
+
+short-open : (book : List ℕ) (n command sequence : ℕ) (body space : List ℕ) → ShortFront (openCommand book n command sequence body space)
+unfolding openCommand openBind
+short-open book n command sequence body space =
+    if-cases ShortFront _ _ _ (λ _. short-reply n _ _ sequence _ space (omega arith)) λ _.
+    if-cases ShortFront _ _ _ (λ _. short-reply n _ _ sequence _ space (omega arith)) λ _.
+    if-cases ShortFront _ _ _ (λ _. short-reply n _ _ sequence _ space none-brief) λ _.
+    if-cases ShortFront _ _ _ (λ _. short-reply n _ _ sequence _ space (omega (arith, idText-within Empty))) λ _.
+    if-cases ShortFront _ _ _ (λ _. short-reply n _ _ sequence _ space (omega arith)) λ _.
+    if-cases ShortFront _ _ _ (λ _. short-reply n _ _ sequence _ space (omega arith)) λ _.
+    if-cases ShortFront _ _ _ (λ _. short-reply n _ _ sequence _ space (omega arith)) λ _.
+    if-cases ShortFront _ _ _ (λ _. short-reply n _ _ sequence _ space (omega arith)) λ _.
+    if-cases ShortFront _ _ _ (λ _. omega arith) λ _. short-reply n _ _ sequence _ space (omega arith)
+
+open-frame : (book octets space : List ℕ) (frame : Frame) → ShortFront (openFrame book octets space frame)
+open-frame book octets space More = omega arith
+open-frame book octets space Malformed = short-reply 4 _ _ 0 _ space (omega arith)
+open-frame book octets space (Whole n) = short-open book _ _ _ _ space
+
+bound-frame : (transmitter : Bool) (book octets stamp space part : List ℕ) (last : ℕ) (frame : Frame) → ShortEffect (boundFrame transmitter book octets stamp space frame part last)
+bound-frame transmitter book octets stamp space part last More = omega arith
+bound-frame transmitter book octets stamp space part last Malformed = short-reply 4 _ _ 0 _ space (omega arith)
+bound-frame transmitter book octets stamp space part last (Whole n) = short-bound transmitter book stamp _ _ _ _ space part last
+
+short-asked : (transmitter : Bool) (book : List ℕ) (x : Octets) (part : List ℕ) (last : ℕ) → ShortEffect (onBound transmitter book x part last)
+unfolding onBound
+short-asked transmitter book x part last =
+    if-cases ShortEffect _ _ _ (λ _. bound-frame transmitter book (x .octets) (x .stamp) (x .space) part last (frameOf (x .octets))) (λ _. omega arith)
+
+-- ---- a step
+
+abbrev ShortRan : Ran Answer → Type 0
+ShortRan r = Short (r .answer)
+
+module _ (book : List ℕ) (w : World) (s : ℕ) (x : Octets) where
+  short-on : (e : Entry) → ShortRan (octetsOn centre book w s x e)
+  unfolding onOpen act
+  short-on Closed = omega arith
+  short-on Open = open-frame book (x .octets) (x .space) (frameOf (x .octets))
+  short-on (Transmitter a) = if-cases ShortRan _ _ _ (λ _. short-asked _ _ x _ _) (λ _. omega arith)
+  short-on (Receiver a) = if-cases ShortRan _ _ _ (λ _. short-asked _ _ x _ _) (λ _. omega arith)
+  short-on Ended = omega arith
+
+pub longest : Longest
+unfolding step
+longest book w s x =
+    if-cases ShortRan _ _ _ (λ _. omega arith) λ _.
+    if-cases ShortRan _ _ _ (λ _. short-on book w s x (entryAt (w .state) s)) (λ _. omega arith)
