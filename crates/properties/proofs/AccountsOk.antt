@@ -2,7 +2,7 @@
 -- another's as it was. Assumes nothing.
 use Prim.Native.Nat.{ℕ, _*_, _≤_, _<_}
 use native.Mathlib.Omega.{arith}
-use mathlib.Core.Path.{_≡_, refl, sym, ap, subst, _∙_}
+use mathlib.Core.Path.{_≡_, refl, sym, subst}
 use mathlib.Core.Bool.{Bool, true, false, not, _||_, false≢true}
 use mathlib.Core.List.{List, [], _∷_}
 use lib.Dec.{leb, ltb, eqb}
@@ -19,7 +19,7 @@ use Rattle.session.specs.declared.Moved.{Moved}
 use Rattle.isolation.specs.Platform.{partSize, tableSize, World, fresh, partOf, Step, opens, closes, octets, outcome, picks, Request, taken, reported, Effect, Ran, ask, put, putEntry, move, octetsOf, octetsOn, step}
 use Rattle.isolation.specs.History.{after}
 use Rattle.isolation.proofs.Sizes.{Sized, sized-fresh, sized-step, sized-entry, asked-length}
-use Rattle.isolation.proofs.Views.{View, view, view-own, view-other}
+use Rattle.isolation.proofs.Views.{View, view-own, view-other}
 use Rattle.centre.specs.Answer.{Octets, Outcome, Answer}
 use Rattle.centre.specs.Bound.{Turn, replying, isTransmitter, onBound, outcomeOk, onOutcome}
 use Rattle.centre.specs.Centre.{centre, act, earlyOctets, earlyOutcome}

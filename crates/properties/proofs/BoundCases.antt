@@ -4,7 +4,6 @@ use mathlib.Core.Path.{_≡_}
 use mathlib.Core.Bool.{Bool, true, false}
 use mathlib.Core.List.{List}
 use Prim.Native.Nat.{ℕ}
-use lib.ListN.{take}
 use Rattle.octets.proofs.StretchLaws.{if-cases}
 use Rattle.wire.specs.Frame.{frameOf}
 use Rattle.wire.specs.Reply.{submitBody}

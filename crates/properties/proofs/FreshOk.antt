@@ -1,9 +1,9 @@
 -- A part of zeros is well formed, with any last id. Assumes nothing.
-use Prim.Native.Nat.{ℕ, zero, suc, _*_, _<_}
+use Prim.Native.Nat.{ℕ, zero, suc, _*_}
 use mathlib.Core.Path.{_≡_, refl, sym, _∙_}
 use mathlib.Core.Bool.{true, false, false≢true}
 use mathlib.Core.List.{List, [], _∷_}
-use lib.ListN.{length, take, drop, getD, replicate}
+use lib.ListN.{take, drop, getD, replicate}
 use lib.Dec.{eqb}
 use borrow.Author.Tests.{eqb-true}
 use Rattle.octets.specs.Stretch.{part, every, zeros}
@@ -11,7 +11,6 @@ use Rattle.octets.proofs.StretchLaws.{and-left, and-right, and-both}
 use Rattle.store.specs.Layout.{recordSize}
 use Rattle.store.specs.Record.{recordOk}
 use Rattle.store.specs.Places.{recordAt}
-use Rattle.store.specs.Search.{isEmpty}
 use Rattle.wellformed.specs.Good.{GoodPart}
 
 pub zeros-replicate : (n : ℕ) → zeros (replicate n 0) ≡ true

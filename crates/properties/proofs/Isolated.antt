@@ -7,7 +7,7 @@ use lib.ListN.{length}
 use Rattle.octets.proofs.StretchLaws.{if-cases}
 use Rattle.store.specs.Places.{recordAt}
 use Rattle.store.specs.Search.{nextPlace}
-use Rattle.isolation.specs.Platform.{Effect, Request, taken, reported, picked}
+use Rattle.isolation.specs.Platform.{Effect, taken, reported, picked}
 use Rattle.isolation.specs.Isolation.{Keeps}
 use Rattle.isolation.proofs.Theorem.{isolated, alone}
 use Rattle.centre.specs.Answer.{Octets, Outcome, Answer, refusedPick}

@@ -1,6 +1,6 @@
 -- The numbers that calls give: what holds of each number that a step can have holds of the one that it has. Assumes nothing.
 use Prim.Native.Nat.{ℕ, _<_}
-use mathlib.Core.Path.{_≡_, refl, sym, ap, subst, _∙_}
+use mathlib.Core.Path.{_≡_, refl, sym, subst, _∙_}
 use mathlib.Core.Bool.{Bool, true, false, not, false≢true}
 use mathlib.Core.List.{List}
 use lib.Dec.{leb, ltb, eqb}
@@ -22,7 +22,7 @@ use Rattle.session.specs.State.{sessionCount, accountCount, entryAt, lastAt, op
 use Rattle.session.specs.declared.Entry.{Entry}
 use Rattle.session.specs.declared.Entry.the-variants.{Closed, Open, Transmitter, Receiver, Ended}
 use Rattle.session.specs.declared.Moved.{Moved}
-use Rattle.isolation.specs.Platform.{World, partOf, opens, closes, octets, outcome, picks, Effect, Front, Ran, octetsOf, octetsOn, step}
+use Rattle.isolation.specs.Platform.{World, partOf, opens, closes, octets, outcome, picks, Effect, Ran, octetsOf, octetsOn, step}
 use Rattle.isolation.specs.History.{boundTo}
 use Rattle.centre.specs.Answer.{Octets, Outcome, Answer, picked, refusedPick}
 use Rattle.centre.specs.Open.{openFrame, onOpen}

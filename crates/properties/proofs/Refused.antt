@@ -1,7 +1,6 @@
 -- A refused call gives its refusal and changes nothing. Assumes nothing.
 use Prim.Native.Nat.{ℕ}
-use mathlib.Core.Path.{_≡_, refl, sym, ap, _∙_}
-use mathlib.Core.Bool.{true, false}
+use mathlib.Core.Path.{_≡_, refl, ap, _∙_}
 use mathlib.Core.List.{List}
 use lib.Dec.{leb, ltb, eqb}
 use lib.ListN.{length}
@@ -20,7 +19,7 @@ use Rattle.isolation.specs.Platform.{World, partOf, Step, opens, closes, octets
 use Rattle.centre.specs.Answer.{Octets, Outcome, Answer, numbered}
 use Rattle.centre.specs.Answer as A
 use Rattle.centre.specs.Open.{openBind, openCommand, openFrame, onOpen}
-use Rattle.centre.specs.Bound.{Turn, replying, keeping, isTransmitter, onBound, onOutcome}
+use Rattle.centre.specs.Bound.{Turn, replying, keeping, isTransmitter, onOutcome}
 use Rattle.centre.specs.Centre.{centre, act, earlyOctets}
 use Rattle.wellformed.proofs.Refused.{reported-refused}
 use Rattle.properties.specs.Property1.{numberOf, refusal}

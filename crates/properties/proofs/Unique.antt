@@ -2,7 +2,7 @@
 use Prim.Native.Nat.{ℕ}
 use mathlib.Core.Path.{_≡_, refl, sym, ap, ap₂, _∙_}
 use mathlib.Core.List.{List}
-use lib.Dec.{eqb, ltb}
+use lib.Dec.{ltb}
 use Rattle.octets.proofs.StretchLaws.{if-cases}
 use Rattle.session.specs.State.{accountCount}
 use Rattle.session.specs.declared.State.{State}
