@@ -146,7 +146,7 @@ module _ (book : List ℕ) (A : ℕ) (below : A < accountCount) where
     fine-step (octets s x) =
         let early = earlyOctets book (length (w .table)) x in
         if-cases FineRan (leb sessionCount s) _ _ (λ _. fine) λ _.
-        if-cases FineRan (eqb early 0) _ _ (λ t. fine-octetsOn s x (early-octets _ _ _ _ (eqb-true early 0 t)) (entryAt (w .state) s)) (λ _. fine)
+        if-cases FineRan (eqb early 0) _ _ (λ t. fine-octetsOn s x (let h = early-octets _ _ _ _ (eqb-true early 0 t) in (h .0 .0, h .2)) (entryAt (w .state) s)) (λ _. fine)
     fine-step (outcome a x) =
         let early = earlyOutcome book (length (w .table)) x in
         if-cases FineRan (eqb early 0) _ _

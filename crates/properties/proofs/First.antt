@@ -1,4 +1,4 @@
--- The first property: each step's number is one of its kind's, and what refusals leave as it was. Assumes nothing.
+-- The first property: each step's number is one of its kind's, 0 only where all is right, and what refusals leave as it was. Assumes nothing.
 use Prim.Native.Nat.{ℕ}
 use mathlib.Core.Path.{_≡_, refl}
 use mathlib.Core.Bool.{true}
@@ -8,6 +8,7 @@ use Rattle.centre.specs.Answer.{Octets, Outcome}
 use Rattle.centre.specs.Centre.{step}
 use Rattle.properties.specs.Property1.{numberOf, numbersOf, among, Property1}
 use Rattle.properties.proofs.Numbers.{opens-number, closes-number, octets-number, outcome-step, pick-step}
+use Rattle.properties.proofs.Right.{right}
 use Rattle.properties.proofs.Refused.{refused-step}
 use Rattle.properties.proofs.StatusKept.{kept-step}
 
@@ -23,4 +24,4 @@ module _ (book : List ℕ) (w : World) where
   defined (picks a) = pick-step (One (picks a)) book w a refl refl refl (λ _. refl) refl
 
 pub property1 : Property1
-property1 = record { defined = defined; refused = λ book w st. refused-step w book st; kept = kept-step }
+property1 = record { defined = defined; right = right; refused = λ book w st. refused-step w book st; kept = kept-step }

@@ -10,7 +10,8 @@ use Rattle.isolation.specs.Platform.{fresh, Step}
 use Rattle.isolation.specs.History.{after}
 use Rattle.centre.specs.Answer.{Octets, Outcome}
 use Rattle.centre.specs.Centre.{centre}
-use Rattle.properties.specs.Healthy.{wellFormed, Healthy}
+use Rattle.properties.specs.Property1.{wellFormed}
+use Rattle.properties.specs.Healthy.{Healthy}
 use Rattle.properties.proofs.AccountsOk.{fine-history}
 use Rattle.properties.proofs.Entries.{history-lead}
 use Rattle.properties.proofs.Numbers.{Ill, octets-number, outcome-step, pick-step}

@@ -8,6 +8,7 @@ pub mod FreshOk
 pub mod Early
 pub mod AccountsOk
 pub mod Numbers
+pub mod Right
 pub mod First
 pub mod Named
 pub mod Entries

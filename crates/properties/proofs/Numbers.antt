@@ -29,8 +29,7 @@ use Rattle.centre.specs.Open.{openFrame, onOpen}
 use Rattle.centre.specs.Bound.{Turn, replying, keeping, isTransmitter, onBound, onOutcome, onPick}
 use Rattle.centre.specs.Centre.{centre, act, octetsEarly, outcomeEarly, pickEarly, earlyOctets, earlyOutcome, earlyPick}
 use Rattle.wellformed.proofs.Cases.{found-cases}
-use Rattle.properties.specs.Property1.{numberOf}
-use Rattle.properties.specs.Healthy.{wellFormed}
+use Rattle.properties.specs.Property1.{numberOf, wellFormed}
 use Rattle.properties.proofs.BoundCases.{bound-cases}
 use Rattle.properties.proofs.Refused.{command-zero}
 

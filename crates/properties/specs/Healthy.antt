@@ -4,17 +4,13 @@ use mathlib.Core.Path.{_≡_}
 use mathlib.Core.Bool.{true}
 use mathlib.Core.List.{List}
 use Rattle.store.specs.Book.{bookRecord, usedOk}
-use Rattle.store.specs.Account.{accountOk}
-use Rattle.session.specs.State.{accountCount, lastAt}
-use Rattle.isolation.specs.Platform.{World, fresh, partOf, Step}
+use Rattle.session.specs.State.{accountCount}
+use Rattle.isolation.specs.Platform.{fresh, Step}
 use Rattle.isolation.specs.Platform as P
 use Rattle.isolation.specs.History.{after}
 use Rattle.centre.specs.Answer.{Octets, Outcome}
 use Rattle.centre.specs.Centre.{centre, step}
-use Rattle.properties.specs.Property1.{numberOf}
-
-abbrev pub wellFormed : List ℕ → World → ℕ → Type 0
-wellFormed book w a = accountOk (bookRecord a book) (lastAt (w .state) a) (partOf a (w .table)) ≡ true
+use Rattle.properties.specs.Property1.{numberOf, wellFormed}
 
 pub record Healthy : Type 0 where
   pub stays : (book : List ℕ) (hs : List (Step Octets Outcome)) (a : ℕ) → a < accountCount → usedOk (bookRecord a book) ≡ true

@@ -1,15 +1,23 @@
 -- Every octet stream, in any session state, gets a defined answer, and every call returns (the first property): `step` of crate centre is defined
 -- for every book, world and step, and the code of each call is proved to end with what `step` gives.
 --
--- Here is which numbers there are, and what refusals leave as it was: a call refused by number, all that it was lent; a request refused over the protocol, every stored message.
-use Prim.Native.Nat.{ℕ}
+-- Here is which numbers there are, that a call with a wrong session, buffer, time stamp or stored record doesn't get 0, and what refusals leave
+-- as it was: a call refused by number, all that it was lent; a request refused over the protocol, every stored message.
+use Prim.Native.Nat.{ℕ, _≤_, _<_}
 use mathlib.Core.Path.{_≡_}
 use mathlib.Core.Bool.{Bool, true, false, _||_}
 use mathlib.Core.List.{List, [], _∷_}
 use lib.Dec.{eqb}
+use lib.ListN.{length}
 use Rattle.octets.specs.Stretch.{part}
 use Rattle.octets.specs.Number.{number}
-use Rattle.isolation.specs.Platform.{World, Step, opens, closes, octets, outcome, picks, unchanged}
+use Rattle.forms.specs.Time.{sentTime}
+use Rattle.wire.specs.Reply.{spaceNeeded}
+use Rattle.store.specs.Book.{bookSize, bookRecord}
+use Rattle.store.specs.Account.{accountOk}
+use Rattle.session.specs.State.{sessionCount, accountCount, entryAt, lastAt}
+use Rattle.isolation.specs.History.{boundTo}
+use Rattle.isolation.specs.Platform.{tableSize, partOf, World, Step, opens, closes, octets, outcome, picks, unchanged}
 use Rattle.centre.specs.Answer.{Octets, Outcome, Answer, numbered, taken, picked, refusedOctets, refusedPick}
 use Rattle.centre.specs.Centre.{centre, step}
 
@@ -49,8 +57,25 @@ abbrev pub among : ℕ → List ℕ → Bool
 among n [] = false
 among n (k ∷ ks) = eqb n k || among n ks
 
+-- account a is well formed
+abbrev pub wellFormed : List ℕ → World → ℕ → Type 0
+wellFormed book w a = accountOk (bookRecord a book) (lastAt (w .state) a) (partOf a (w .table)) ≡ true
+
+-- session, buffers, time stamp and stored records of a step are right; of octets the records are those of the account that the session is bound to
+abbrev pub Right : List ℕ → World → Step Octets Outcome → Type 0
+Right book w (opens s) = s < sessionCount
+Right book w (closes s) = s < sessionCount
+Right book w (octets s x) =
+    (s < sessionCount) × (length book ≡ bookSize) × (length (w .table) ≡ tableSize) × (spaceNeeded ≤ length (x .space)) × (sentTime (x .stamp) ≡ true)
+    × ((a : ℕ) → boundTo a (entryAt (w .state) s) ≡ true → (a < accountCount) × wellFormed book w a)
+Right book w (outcome a x) =
+    (length book ≡ bookSize) × (length (w .table) ≡ tableSize) × (sentTime (x .stamp) ≡ true) × (a < accountCount) × wellFormed book w a
+Right book w (picks a) = (length book ≡ bookSize) × (length (w .table) ≡ tableSize) × (a < accountCount) × wellFormed book w a
+
 pub record Property1 : Type 0 where
+  -- one of the step's numbers; 0 only where all is right
   pub defined : (book : List ℕ) (w : World) (st : Step Octets Outcome) → among (numberOf (step book w st .answer)) (numbersOf st) ≡ true
+  pub right : (book : List ℕ) (w : World) (st : Step Octets Outcome) → numberOf (step book w st .answer) ≡ 0 → Right book w st
   -- a number other than 0: the step's refusal, and the world unchanged
   pub refused : (book : List ℕ) (w : World) (st : Step Octets Outcome) → (let r = step book w st in
       (numberOf (r .answer) ≡ 0 → ⊥) → r ≡ unchanged centre w (refusal st (numberOf (r .answer))))

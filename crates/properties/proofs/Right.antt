@@ -1,0 +1,94 @@
+-- Number 0 comes only where session, buffers, time stamp and stored records are right. Assumes nothing.
+use Prim.Native.Nat.{ℕ, _≤_, _<_}
+use native.Mathlib.Omega.{arith}
+use mathlib.Core.Path.{_≡_, subst}
+use mathlib.Core.Bool.{Bool, true, not, false≢true}
+use mathlib.Core.List.{List}
+use lib.Dec.{leb, ltb, eqb}
+use lib.ListN.{length}
+use borrow.Author.Tests.{leb-false, ltb-true, eqb-true, eqb-false, not-false}
+use Rattle.octets.proofs.StretchLaws.{if-cases}
+use Rattle.store.specs.Book.{bookRecord}
+use Rattle.store.specs.Account.{accountOk}
+use Rattle.session.specs.State.{sessionCount, accountCount, entryAt, opened, closed}
+use Rattle.session.specs.declared.Entry.{Entry}
+use Rattle.session.specs.declared.Entry.the-variants.{Closed, Open, Transmitter, Receiver, Ended}
+use Rattle.session.specs.declared.Moved.{Moved}
+use Rattle.isolation.specs.Platform.{World, Step, opens, closes, octets, outcome, picks, Effect, Ran, octetsOf, octetsOn, step}
+use Rattle.isolation.specs.History.{boundTo}
+use Rattle.centre.specs.Answer.{Octets, Outcome, Answer}
+use Rattle.centre.specs.Bound.{isTransmitter, outcomeOk, onBound, onOutcome, onPick}
+use Rattle.centre.specs.Centre.{centre, act, earlyOctets, earlyOutcome, earlyPick}
+use Rattle.properties.specs.Property1.{numberOf, wellFormed, Right}
+use Rattle.properties.proofs.Early.{early-octets, early-outcome, early-pick}
+
+-- ---- an account asked
+
+module _ (book part : List ℕ) (last : ℕ) where
+  abbrev Sound : Effect Answer → Type 0
+  Sound e = numberOf (e .answer) ≡ 0 → accountOk book last part ≡ true
+
+  bound-sound : (transmitter : Bool) (x : Octets) → Sound (onBound transmitter book x part last)
+  unfolding onBound
+  bound-sound transmitter x = if-cases Sound (accountOk book last part) _ _ (λ ok _. ok) (λ _ z. absurd (omega arith))
+
+  outcome-sound : (x : Outcome) → Sound (onOutcome book x part last)
+  unfolding onOutcome
+  outcome-sound x =
+      if-cases Sound (not (outcomeOk (x .state))) _ _ (λ _ z. absurd (omega arith)) λ _.
+      if-cases Sound (not (accountOk book last part)) _ _ (λ _ z. absurd (omega arith)) (λ ok _. not-false (accountOk book last part) ok)
+
+  pick-sound : Sound (onPick book part last)
+  unfolding onPick
+  pick-sound =
+      if-cases Sound (not (accountOk book last part)) _ _ (λ _ z. absurd (omega arith)) (λ ok _. not-false (accountOk book last part) ok)
+
+-- ---- steps
+
+module _ (book : List ℕ) (w : World) where
+  abbrev If : Type 0 → Ran Answer → Type 0
+  If R r = numberOf (r .answer) ≡ 0 → R
+
+  abbrev Known : ℕ → Type 0
+  Known a = (a < accountCount) × wellFormed book w a
+
+  octetsOf-right : (s : ℕ) (x : Octets) (e : Entry) (a : ℕ) → If (Known a) (octetsOf centre book w s x e a)
+  unfolding act
+  octetsOf-right s x e a =
+      if-cases (If (Known a)) (ltb a accountCount) _ _ (λ t z. (ltb-true a accountCount t, bound-sound _ _ _ (isTransmitter e) x z)) (λ _ z. absurd (omega arith))
+
+  octetsOn-right : (s : ℕ) (x : Octets) (e : Entry) → If ((a : ℕ) → boundTo a e ≡ true → Known a) (octetsOn centre book w s x e)
+  octetsOn-right s x Closed z a t = absurd (false≢true t)
+  octetsOn-right s x Open z a t = absurd (false≢true t)
+  octetsOn-right s x (Transmitter b) z a t = subst Known (eqb-true b a t) (octetsOf-right s x (Transmitter b) b z)
+  octetsOn-right s x (Receiver b) z a t = subst Known (eqb-true b a t) (octetsOf-right s x (Receiver b) b z)
+  octetsOn-right s x Ended z a t = absurd (false≢true t)
+
+  pub right : (st : Step Octets Outcome) → If (Right book w st) (step centre book w st)
+  unfolding step act opened closed
+  right (opens s) =
+      if-cases (λ (r : Moved). r .number ≡ 0 → s < sessionCount) (leb sessionCount s) _ _ (λ _ z. absurd (omega arith)) (λ t _. leb-false sessionCount s t)
+  right (closes s) =
+      if-cases (λ (r : Moved). r .number ≡ 0 → s < sessionCount) (leb sessionCount s) _ _ (λ _ z. absurd (omega arith)) (λ t _. leb-false sessionCount s t)
+  right (octets s x) =
+      let P = If (Right book w (octets s x)) in
+      let early = earlyOctets book (length (w .table)) x in
+      if-cases P (leb sessionCount s) _ _ (λ _ z. absurd (omega arith)) λ t.
+      if-cases P (eqb early 0) _ _
+      (λ u z. let h = early-octets _ _ _ _ (eqb-true early 0 u) in
+      (leb-false sessionCount s t, h .0 .0, h .0 .1, h .1, h .2, octetsOn-right s x (entryAt (w .state) s) z))
+      (λ u z. absurd (eqb-false early 0 u z))
+  right (outcome a x) =
+      let P = If (Right book w (outcome a x)) in
+      let early = earlyOutcome book (length (w .table)) x in
+      if-cases P (eqb early 0) _ _
+      (λ u. let h = early-outcome _ _ _ (eqb-true early 0 u) in
+      if-cases P (ltb a accountCount) _ _ (λ t z. (h .0 .0, h .0 .1, h .1, ltb-true a accountCount t, outcome-sound _ _ _ x z)) (λ _ z. absurd (omega arith)))
+      (λ u z. absurd (eqb-false early 0 u z))
+  right (picks a) =
+      let P = If (Right book w (picks a)) in
+      let early = earlyPick book (length (w .table)) in
+      if-cases P (eqb early 0) _ _
+      (λ u. let h = early-pick _ _ (eqb-true early 0 u) in
+      if-cases P (ltb a accountCount) _ _ (λ t z. (h .0, h .1, ltb-true a accountCount t, pick-sound _ _ _ z)) (λ _ z. absurd (omega arith)))
+      (λ u z. absurd (eqb-false early 0 u z))
