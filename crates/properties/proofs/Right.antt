@@ -1,5 +1,5 @@
 -- Number 0 comes only where session, buffers, time stamp and stored records are right. Assumes nothing.
-use Prim.Native.Nat.{ℕ, _≤_, _<_}
+use Prim.Native.Nat.{ℕ, _<_}
 use native.Mathlib.Omega.{arith}
 use mathlib.Core.Path.{_≡_, subst}
 use mathlib.Core.Bool.{Bool, true, not, false≢true}
@@ -8,7 +8,6 @@ use lib.Dec.{leb, ltb, eqb}
 use lib.ListN.{length}
 use borrow.Author.Tests.{leb-false, ltb-true, eqb-true, eqb-false, not-false}
 use Rattle.octets.proofs.StretchLaws.{if-cases}
-use Rattle.store.specs.Book.{bookRecord}
 use Rattle.store.specs.Account.{accountOk}
 use Rattle.session.specs.State.{sessionCount, accountCount, entryAt, opened, closed}
 use Rattle.session.specs.declared.Entry.{Entry}

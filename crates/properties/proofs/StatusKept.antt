@@ -49,15 +49,15 @@ module _ (book : List ℕ) (w : World) (s : ℕ) (x : Octets) where
     kept-octetsOf =
         let mine = partOf a (w .table) in
         let last = lastAt (w .state) a in
-        let record₀ = bookRecord a book in
+        let entry = bookRecord a book in
         if-cases Kept (ltb a accountCount) _ _
-        (λ _. bound-cases record₀ x mine last (λ (r : Effect Answer). Kept (settle centre w s e a r)) Same (isTransmitter e)
+        (λ _. bound-cases entry x mine last (λ (r : Effect Answer). Kept (settle centre w s e a r)) Same (isTransmitter e)
         (λ _ _ _. put-same mine last refl refl)
         (λ _. record {
           same = λ _ _ _ _. (refl, refl);
-          submits = λ body. submitted-refused record₀ body mine last;
-          cancels = λ body ne. (cancelled-refused mine record₀ (x .stamp) body ne, refl);
-          replaces = λ body ne. (replaced-refused mine record₀ body ne, refl);
+          submits = λ body. submitted-refused entry body mine last;
+          cancels = λ body ne. (cancelled-refused mine entry (x .stamp) body ne, refl);
+          replaces = λ body ne. (replaced-refused mine entry body ne, refl);
         })
         (record {
           more = λ _ _. put-same mine last refl refl;

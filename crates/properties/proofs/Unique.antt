@@ -7,7 +7,7 @@ use Rattle.octets.proofs.StretchLaws.{if-cases}
 use Rattle.session.specs.State.{accountCount}
 use Rattle.session.specs.declared.State.{State}
 use Rattle.session.specs.declared.Moved.{Moved}
-use Rattle.isolation.specs.Platform.{World, picks, Ran, step}
+use Rattle.isolation.specs.Platform.{World, fresh, picks, Ran, step}
 use Rattle.centre.specs.Answer.{Answer, picked}
 use Rattle.centre.specs.Centre.{centre, act, moves, takes, reports, pickedNumber, pickedRecord}
 use Rattle.centre.specs.declared.take.Taken.{Taken}
@@ -51,9 +51,10 @@ picking book w a =
     if-cases P _ _ _ (λ _. if-cases P (ltb a accountCount) _ _ (λ _. pick-back _ w a P (λ _. refl) (λ _. refl)) (λ _. refl)) (λ _. refl)
 
 pub property2 : Property2
-unfolding step
+unfolding step fresh
 property2 =
     record {
+      starting = refl;
       opening = λ book state table s. refl;
       closing = λ book state table s. refl;
       picking = picking;

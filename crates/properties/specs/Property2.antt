@@ -1,20 +1,23 @@
 -- Requests are read and responses written octet for octet as defined; session states and effects are those of that definition too (the second
 -- property). The definition is `step` of crate centre. That each public operation follows it is the contract of its code: taking octets and
 -- an outcome say `takes .. ≡ step ..` and `reports .. ≡ step ..`, a pick gives number and record of its step's answer, opening and closing say
--- what is `step` by the first two lines here. The others say that such a contract allows one result only, so the definition alone decides.
+-- what is `step` by the lines here. The others say that such a contract allows one result only, so the definition alone decides.
 use Prim.Native.Nat.{ℕ}
 use mathlib.Core.Path.{_≡_}
 use mathlib.Core.List.{List}
+use lib.ListN.{replicate}
 use Rattle.session.specs.State.{opened, closed}
+use Rattle.session.specs.State as S
 use Rattle.session.specs.declared.State.{State}
 use Rattle.session.specs.declared.Moved.{Moved}
-use Rattle.isolation.specs.Platform.{World, opens, closes, picks, Ran}
+use Rattle.isolation.specs.Platform.{tableSize, World, fresh, opens, closes, picks, Ran}
 use Rattle.centre.specs.Answer.{Answer, picked}
 use Rattle.centre.specs.Centre.{step, world, moves, takes, reports, pickedNumber, pickedRecord}
 use Rattle.centre.specs.declared.take.Taken.{Taken}
 
 pub record Property2 : Type 0 where
-  -- opening and closing are steps
+  -- the fresh state with a table of zeros is the fresh platform; opening and closing are steps
+  pub starting : world S.fresh (replicate tableSize 0) ≡ fresh
   pub opening : (book : List ℕ) (state : State) (table : List ℕ) (s : ℕ) → moves (opened state s) table ≡ step book (world state table) (opens s)
   pub closing : (book : List ℕ) (state : State) (table : List ℕ) (s : ℕ) → moves (closed state s) table ≡ step book (world state table) (closes s)
   -- a pick changes nothing, and its number and its record are its whole answer
