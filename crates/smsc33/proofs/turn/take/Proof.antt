@@ -1,0 +1,62 @@
+use native.Mathlib.Omega.{arith}
+use lib.ListN.{length-take}
+use Rattle.smsc33.proofs.TextLaws.{told-is, told-fits}
+use Rattle.smsc33.specs.Line.{line}
+use borrow.Author.Needs.{needs}
+use Rattle.smsc33.proofs.turn.take.Statement.{statement}
+use Rattle.smsc33.proofs.turn.take.Tie as tie
+use Rattle.smsc33.proofs.turn.take.Reads as reads
+use Rattle.smsc33.proofs.turn.take.Lts as lts
+use Rattle.centre.proofs.take.take.Reads as take-reads
+use Rattle.octets.proofs.stretch.first.Reads as first-reads
+use Rattle.smsc33.proofs.text.put_line.Reads as put-line-reads
+
+-- src/turn.rt:64:79
+slice-aggregate-take : tie.Need-slice-aggregate-take
+slice-aggregate-take c = search needs
+
+-- src/turn.rt:64:9
+take-requires : tie.Need-take-requires
+take-requires c κs = search needs
+
+-- src/turn.rt:66:40
+slice-aggregate-first : tie.Need-slice-aggregate-first
+slice-aggregate-first c = search needs
+
+-- src/turn.rt:66:9
+first-requires : tie.Need-first-requires
+first-requires c κs = search needs
+
+-- src/turn.rt:67:9
+put-line-requires : tie.Need-put-line-requires
+put-line-requires c κs = (rw (c .before .first .ensures, length-take) (omega (arith, slice-aggregate-first (c .before .before))), c .before .before .before .before .before .before .before .before .before .before .before .before .before .before .before .pre)
+
+-- src/turn.rt:51:1
+same-length : tie.Need-same-length
+same-length c = search needs
+
+-- src/turn.rt:51:1
+same-length-2 : tie.Need-same-length-2
+same-length-2 c = search needs
+
+-- src/turn.rt:51:1
+returns : tie.Need-returns
+returns c =
+    let t = c .before .before .before .before .before .before .before .before .before .before .before .before .before .before .before .before .before .before .args .text .now in
+    let l = line (c .before .before .before .before .before .before .before .before .before .before .take .result .number) (c .before .before .before .before .before .before .before .before .before .before .take .result .consumed) (c .before .before .before .before .first .result .now) in
+    let e = told-is t l (c .before .before .put-line .ensures .0) (c .before .before .put-line .ensures .1) (omega (arith, c .before .before .put-line .ensures .2, c .before .before .before .before .before .before .before .before .before .before .before .before .before .before .before .before .before .before .pre)) in
+    let fits = told-fits t l (c .before .before .put-line .ensures .0) (c .before .before .put-line .ensures .1) (omega (arith, c .before .before .put-line .ensures .2, c .before .before .before .before .before .before .before .before .before .before .before .before .before .before .before .before .before .before .pre)) in
+    (simp (← c .before .before .before .before .before .before .before .before .before .before .take .ensures, e, c .before .before .before .before .first .ensures), fits)
+
+pub take-spec : {M : Type 1} → statement M
+take-spec =
+    tie.close
+    (tie.spec
+    slice-aggregate-take
+    take-requires
+    slice-aggregate-first
+    first-requires
+    put-line-requires
+    same-length
+    same-length-2
+    returns)
