@@ -72,6 +72,10 @@ pub struct Lent<'a> {
 }
 
 impl<'a> Lent<'a> {
+    pub fn new(book: &'a [u8], table: &'a mut [u8]) -> Self {
+        Lent { book, table }
+    }
+
     /// Splits both into records, if they have the outline's sizes.
     fn records(self) -> Result<Records<'a>, Refusal> {
         if self.book.len() != BOOK || self.table.len() != TABLE {

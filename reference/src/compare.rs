@@ -9,7 +9,7 @@ mod words;
 mod world;
 
 pub use difference::{compare, Difference};
-pub use engine::{Engine, Moved, Taken};
+pub use engine::{Engine, Moved, Sent, Taken};
 pub use history::{History, Outcome, Sizes, Step, Take, PLAIN_STAMP};
 pub use shrink::shrink;
 pub use tally::Tally;

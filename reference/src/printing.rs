@@ -35,11 +35,44 @@ pub enum Order {
     },
     Outcome {
         stamp: [u8; STAMP],
-        account: u8,
-        id: u32,
-        outcome: u8,
-        error: u8,
+        report: RecordedReport,
     },
+}
+
+/// A report as a record's payload has it: one octet names the account.
+#[derive(Clone, Copy, Debug, PartialEq, Eq)]
+pub struct RecordedReport {
+    pub account: u8,
+    pub id: u32,
+    pub outcome: u8,
+    pub error: u8,
+}
+
+impl RecordedReport {
+    fn read(payload: &[u8; OUTCOME_LENGTH]) -> Self {
+        let [account, a, b, c, d, outcome, error] = *payload;
+        RecordedReport {
+            account,
+            id: u32::from_be_bytes([a, b, c, d]),
+            outcome,
+            error,
+        }
+    }
+
+    fn payload(self) -> [u8; OUTCOME_LENGTH] {
+        let [a, b, c, d] = self.id.to_be_bytes();
+        [self.account, a, b, c, d, self.outcome, self.error]
+    }
+
+    /// The same report with the account as the centre takes it: any number, to be examined.
+    fn for_centre(self) -> Report {
+        Report {
+            account: usize::from(self.account),
+            id: self.id,
+            outcome: self.outcome,
+            error: self.error,
+        }
+    }
 }
 
 impl Order {
@@ -56,16 +89,10 @@ impl Order {
                 octets: record[PAYLOAD..PAYLOAD + length].to_vec(),
             }),
             CLOSE => Some(Order::Close { session }),
-            OUTCOME if length == OUTCOME_LENGTH => {
-                let [account, a, b, c, d, outcome, error] = *record[PAYLOAD..].first_chunk()?;
-                Some(Order::Outcome {
-                    stamp,
-                    account,
-                    id: u32::from_be_bytes([a, b, c, d]),
-                    outcome,
-                    error,
-                })
-            }
+            OUTCOME if length == OUTCOME_LENGTH => Some(Order::Outcome {
+                stamp,
+                report: RecordedReport::read(record[PAYLOAD..].first_chunk()?),
+            }),
             _ => None,
         }
     }
@@ -80,16 +107,7 @@ impl Order {
                 octets,
             } => record(OCTETS, *session, stamp, octets),
             Order::Close { session } => record(CLOSE, *session, &[0; STAMP], &[]),
-            Order::Outcome {
-                stamp,
-                account,
-                id,
-                outcome,
-                error,
-            } => {
-                let [a, b, c, d] = id.to_be_bytes();
-                record(OUTCOME, 0, stamp, &[*account, a, b, c, d, *outcome, *error])
-            }
+            Order::Outcome { stamp, report } => record(OUTCOME, 0, stamp, &report.payload()),
         }
     }
 }
@@ -114,11 +132,7 @@ struct Printer<'a> {
 
 impl Printer<'_> {
     fn lent(&mut self) -> (Lent<'_>, &mut State) {
-        let lent = Lent {
-            book: self.book,
-            table: &mut self.table,
-        };
-        (lent, &mut self.state)
+        (Lent::new(self.book, &mut self.table), &mut self.state)
     }
 
     /// The line that an order prints.
@@ -136,21 +150,9 @@ impl Printer<'_> {
                 stamp,
                 octets,
             } => self.octets_line(usize::from(*session), stamp, octets),
-            Order::Outcome {
-                stamp,
-                account,
-                id,
-                outcome,
-                error,
-            } => {
-                let report = Report {
-                    account: usize::from(*account),
-                    id: *id,
-                    outcome: *outcome,
-                    error: *error,
-                };
+            Order::Outcome { stamp, report } => {
                 let (lent, state) = self.lent();
-                line_without_reply(reference.outcome(lent, state, stamp, report))
+                line_without_reply(reference.outcome(lent, state, stamp, report.for_centre()))
             }
         }
     }

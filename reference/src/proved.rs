@@ -5,7 +5,7 @@
 //! written to.
 
 use crate::centre::{Lent, PlainState, Report};
-use crate::compare::{Engine, Moved, Taken};
+use crate::compare::{Engine, Moved, Sent, Taken};
 
 extern "C" {
     fn inverook_open(state: PlainState, session: usize) -> Moved;
@@ -40,24 +40,36 @@ extern "C" {
         outcome: u8,
         error: u8,
     ) -> u8;
+}
 
-    fn inverook_pick_number(
-        book: *const u8,
-        book_length: usize,
-        table: *const u8,
-        table_length: usize,
-        state: PlainState,
-        account: usize,
-    ) -> u8;
-
-    fn inverook_pick_at(
-        book: *const u8,
-        book_length: usize,
-        table: *const u8,
-        table_length: usize,
-        state: PlainState,
-        account: usize,
-    ) -> usize;
+/// Declares one of the library's two questions about the message to send next, and asks it.
+/// They differ in their names and answers only, so that what makes a call safe is said once.
+macro_rules! ask_about_next {
+    ($asked:ident, $foreign:ident, $answer:ty) => {
+        fn $asked(&self, book: &[u8], table: &[u8], state: &PlainState, account: usize) -> $answer {
+            extern "C" {
+                fn $foreign(
+                    book: *const u8,
+                    book_length: usize,
+                    table: *const u8,
+                    table_length: usize,
+                    state: PlainState,
+                    account: usize,
+                ) -> $answer;
+            }
+            // SAFETY: each pointer comes with its slice's length; both are only read.
+            unsafe {
+                $foreign(
+                    book.as_ptr(),
+                    book.len(),
+                    table.as_ptr(),
+                    table.len(),
+                    *state,
+                    account,
+                )
+            }
+        }
+    };
 }
 
 /// libinverook.a.
@@ -79,15 +91,7 @@ impl Engine for Proved {
         unsafe { inverook_close(*state, session) }
     }
 
-    fn take(
-        &self,
-        lent: Lent<'_>,
-        state: &PlainState,
-        session: usize,
-        octets: &[u8],
-        stamp: &[u8],
-        space: &mut [u8],
-    ) -> Taken {
+    fn take(&self, lent: Lent<'_>, state: &PlainState, sent: Sent<'_>, space: &mut [u8]) -> Taken {
         // SAFETY: each pointer comes with its slice's length, and the two that are written
         // to are exclusive borrows. The library keeps none of them.
         unsafe {
@@ -97,11 +101,11 @@ impl Engine for Proved {
                 lent.table.as_mut_ptr(),
                 lent.table.len(),
                 *state,
-                session,
-                octets.as_ptr(),
-                octets.len(),
-                stamp.as_ptr(),
-                stamp.len(),
+                sent.session,
+                sent.octets.as_ptr(),
+                sent.octets.len(),
+                sent.stamp.as_ptr(),
+                sent.stamp.len(),
                 space.as_mut_ptr(),
                 space.len(),
             )
@@ -127,31 +131,6 @@ impl Engine for Proved {
         }
     }
 
-    fn pick_number(&self, book: &[u8], table: &[u8], state: &PlainState, account: usize) -> u8 {
-        // SAFETY: each pointer comes with its slice's length; both are only read.
-        unsafe {
-            inverook_pick_number(
-                book.as_ptr(),
-                book.len(),
-                table.as_ptr(),
-                table.len(),
-                *state,
-                account,
-            )
-        }
-    }
-
-    fn pick_at(&self, book: &[u8], table: &[u8], state: &PlainState, account: usize) -> usize {
-        // SAFETY: as in `pick_number`.
-        unsafe {
-            inverook_pick_at(
-                book.as_ptr(),
-                book.len(),
-                table.as_ptr(),
-                table.len(),
-                *state,
-                account,
-            )
-        }
-    }
+    ask_about_next!(pick_number, inverook_pick_number, u8);
+    ask_about_next!(pick_at, inverook_pick_at, usize);
 }

@@ -1,7 +1,8 @@
 //! Generated histories as records of the printing program.
 
+use crate::centre::Report;
 use crate::compare::{History, Sizes, Step};
-use crate::printing::Order;
+use crate::printing::{Order, RecordedReport};
 
 /// The orders of a history; none if it has a step that no record can say.
 pub fn orders(history: &History) -> Option<Vec<Order>> {
@@ -23,13 +24,19 @@ fn order(step: &Step) -> Option<Order> {
         }),
         Step::Outcome(outcome) if outcome.sizes == Sizes::default() => Some(Order::Outcome {
             stamp: outcome.stamp.as_slice().try_into().ok()?,
-            account: octet(outcome.report.account)?,
-            id: outcome.report.id,
-            outcome: outcome.report.outcome,
-            error: outcome.report.error,
+            report: report(outcome.report)?,
         }),
         _ => None,
     }
+}
+
+fn report(report: Report) -> Option<RecordedReport> {
+    Some(RecordedReport {
+        account: octet(report.account)?,
+        id: report.id,
+        outcome: report.outcome,
+        error: report.error,
+    })
 }
 
 fn octet(number: usize) -> Option<u8> {

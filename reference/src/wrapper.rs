@@ -7,7 +7,7 @@
 //! hands back is never used without being looked at.
 
 use crate::centre::{Lent, PlainState, Refusal, Report, BOOK, DONE, LONGEST_REPLY, PLACE, TABLE};
-use crate::compare::Engine;
+use crate::compare::{Engine, Sent};
 use std::ops::Deref;
 
 /// A centre with its book, its table and its state.
@@ -123,13 +123,13 @@ impl<E: Engine> Centre<E> {
         stamp: &[u8],
     ) -> Result<Option<Taken>, Refusal> {
         let mut space = [0; LONGEST_REPLY];
-        let lent = Lent {
-            book: &self.book,
-            table: &mut self.table,
+        let lent = Lent::new(&self.book, &mut self.table);
+        let sent = Sent {
+            session,
+            octets,
+            stamp,
         };
-        let taken = self
-            .engine
-            .take(lent, &self.state, session, octets, stamp, &mut space);
+        let taken = self.engine.take(lent, &self.state, sent, &mut space);
         match accept(taken.number) {
             Err(Refusal::MoreNeeded) => return Ok(None),
             result => result?,
@@ -153,10 +153,7 @@ impl<E: Engine> Centre<E> {
         outcome: Outcome,
         error: u8,
     ) -> Result<(), Refusal> {
-        let lent = Lent {
-            book: &self.book,
-            table: &mut self.table,
-        };
+        let lent = Lent::new(&self.book, &mut self.table);
         let report = Report {
             account,
             id,

@@ -2,7 +2,7 @@
 
 use super::scenarios::Scenario;
 use crate::centre::{Lent, PlainState, Report};
-use crate::compare::{Engine, Moved, Step, Taken, World};
+use crate::compare::{Engine, Moved, Sent, Step, Taken, World};
 use std::hint::black_box;
 
 /// The thread's whole stack, and how much of it is painted.
@@ -103,15 +103,7 @@ impl Engine for Idle {
         }
     }
 
-    fn take(
-        &self,
-        _: Lent<'_>,
-        state: &PlainState,
-        _: usize,
-        _: &[u8],
-        _: &[u8],
-        _: &mut [u8],
-    ) -> Taken {
+    fn take(&self, _: Lent<'_>, state: &PlainState, _: Sent<'_>, _: &mut [u8]) -> Taken {
         Taken {
             number: 0,
             consumed: 0,

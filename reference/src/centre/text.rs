@@ -73,23 +73,22 @@ fn without_leading_spaces(text: &[u8]) -> &[u8] {
 mod tests {
     use super::*;
 
+    /// Names the text for which it doesn't hold.
+    fn assert_each(holds: impl Fn(&[u8]) -> bool, texts: &[&[u8]]) {
+        for text in texts {
+            assert!(holds(text), "{}", text.escape_ascii());
+        }
+    }
+
     #[test]
     fn addresses() {
-        for good in [&b""[..], b"1", b"  1", b"0123456789", b" 0"] {
-            assert!(is_address(good), "{good:?}");
-        }
-        for bad in [
-            &b" "[..],
-            b"    ",
-            b"1 ",
-            b"1 2",
-            b"+44",
-            b"a",
-            b"\t1",
-            b"1\x801",
-        ] {
-            assert!(!is_address(bad), "{bad:?}");
-        }
+        assert_each(is_address, &[b"", b"1", b"  1", b"0123456789", b" 0"]);
+        assert_each(
+            |text| !is_address(text),
+            &[
+                b" ", b"    ", b"1 ", b"1 2", b"+44", b"a", b"\t1", b"1\x801",
+            ],
+        );
     }
 
     #[test]
@@ -98,49 +97,52 @@ mod tests {
         assert_eq!(message_id(b"0"), Some(0));
         assert_eq!(message_id(b"FfFfFfFf"), Some(u32::MAX));
         assert_eq!(message_id(b"00000001"), Some(1));
-        for bad in [
-            &b""[..],
-            b"  ",
-            b"1 ",
-            b"g",
-            b"0x1",
-            b"-1",
-            b"000000001",
-            b"1\xff",
-        ] {
-            assert_eq!(message_id(bad), None, "{bad:?}");
-        }
+        assert_each(
+            |text| message_id(text).is_none(),
+            &[
+                b"",
+                b"  ",
+                b"1 ",
+                b"g",
+                b"0x1",
+                b"-1",
+                b"000000001",
+                b"1\xff",
+            ],
+        );
     }
 
     #[test]
     fn times_at_their_limits() {
-        for good in [
-            b"960701120000000+",
-            b"000101000000000-",
-            b"991231235959948+",
-            b"960231000000048-",
-        ] {
-            assert!(is_time(good), "{}", String::from_utf8_lossy(good));
-        }
-        for bad in [
-            &b""[..],
-            b"96070112000000+",
-            b"9607011200000000+",
-            b"960001120000000+",
-            b"961301120000000+",
-            b"960700120000000+",
-            b"960732120000000+",
-            b"960701240000000+",
-            b"960701126000000+",
-            b"960701120060000+",
-            b"960701120000049+",
-            b"960701120000000 ",
-            b"9607011200000000",
-            b"96070112000000a+",
-            b"9607011200000\x000+",
-        ] {
-            assert!(!is_time(bad), "{}", String::from_utf8_lossy(bad));
-        }
+        assert_each(
+            is_time,
+            &[
+                b"960701120000000+",
+                b"000101000000000-",
+                b"991231235959948+",
+                b"960231000000048-",
+            ],
+        );
+        assert_each(
+            |text| !is_time(text),
+            &[
+                b"",
+                b"96070112000000+",
+                b"9607011200000000+",
+                b"960001120000000+",
+                b"961301120000000+",
+                b"960700120000000+",
+                b"960732120000000+",
+                b"960701240000000+",
+                b"960701126000000+",
+                b"960701120060000+",
+                b"960701120000049+",
+                b"960701120000000 ",
+                b"9607011200000000",
+                b"96070112000000a+",
+                b"9607011200000\x000+",
+            ],
+        );
     }
 
     #[test]

@@ -20,6 +20,14 @@ pub struct Taken {
     pub state: PlainState,
 }
 
+/// What a session sent, and the time to take it at.
+#[derive(Clone, Copy, Debug)]
+pub struct Sent<'a> {
+    pub session: usize,
+    pub octets: &'a [u8],
+    pub stamp: &'a [u8],
+}
+
 pub trait Engine {
     fn name(&self) -> &'static str;
 
@@ -27,15 +35,7 @@ pub trait Engine {
 
     fn close(&self, state: &PlainState, session: usize) -> Moved;
 
-    fn take(
-        &self,
-        lent: Lent<'_>,
-        state: &PlainState,
-        session: usize,
-        octets: &[u8],
-        stamp: &[u8],
-        space: &mut [u8],
-    ) -> Taken;
+    fn take(&self, lent: Lent<'_>, state: &PlainState, sent: Sent<'_>, space: &mut [u8]) -> Taken;
 
     fn outcome(&self, lent: Lent<'_>, state: &PlainState, stamp: &[u8], report: Report) -> u8;
 
@@ -51,34 +51,24 @@ impl Engine for Reference {
     }
 
     fn open(&self, state: &PlainState, session: usize) -> Moved {
-        let mut after = State::from(state);
-        let result = Reference::open(self, &mut after, session);
-        Moved {
-            number: number(result),
-            state: PlainState::from(&after),
-        }
+        moved(state, |after| Reference::open(self, after, session))
     }
 
     fn close(&self, state: &PlainState, session: usize) -> Moved {
-        let mut after = State::from(state);
-        let result = Reference::close(self, &mut after, session);
-        Moved {
-            number: number(result),
-            state: PlainState::from(&after),
-        }
+        moved(state, |after| Reference::close(self, after, session))
     }
 
-    fn take(
-        &self,
-        lent: Lent<'_>,
-        state: &PlainState,
-        session: usize,
-        octets: &[u8],
-        stamp: &[u8],
-        space: &mut [u8],
-    ) -> Taken {
+    fn take(&self, lent: Lent<'_>, state: &PlainState, sent: Sent<'_>, space: &mut [u8]) -> Taken {
         let mut after = State::from(state);
-        let result = Reference::take(self, lent, &mut after, session, octets, stamp, space);
+        let result = Reference::take(
+            self,
+            lent,
+            &mut after,
+            sent.session,
+            sent.octets,
+            sent.stamp,
+            space,
+        );
         let (consumed, written) = result.map_or((0, 0), |taken| (taken.consumed, taken.written));
         Taken {
             number: number(result),
@@ -105,6 +95,17 @@ impl Engine for Reference {
     fn pick_at(&self, book: &[u8], table: &[u8], state: &PlainState, account: usize) -> usize {
         self.pick(book, table, &State::from(state), account)
             .unwrap_or(TABLE)
+    }
+}
+
+/// Opens or closes. The reference works on its own form of the state, engines have the plain
+/// one in common.
+fn moved(state: &PlainState, play: impl FnOnce(&mut State) -> Result<(), Refusal>) -> Moved {
+    let mut after = State::from(state);
+    let result = play(&mut after);
+    Moved {
+        number: number(result),
+        state: PlainState::from(&after),
     }
 }
 

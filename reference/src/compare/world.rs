@@ -1,6 +1,6 @@
 //! What a caller keeps between calls, and how a step is played on it.
 
-use super::engine::Engine;
+use super::engine::{Engine, Sent};
 use super::history::{History, Outcome, Sizes, Step, Take};
 use crate::centre::{Lent, PlainState, BOOK, TABLE};
 
@@ -94,18 +94,15 @@ impl World {
     }
 
     fn take(&mut self, engine: &dyn Engine, take: &Take) -> Answer {
-        let lent = Lent {
-            book: &self.book[..take.sizes.book],
-            table: &mut self.table[..take.sizes.table],
+        let Sizes { book, table } = take.sizes;
+        let lent = Lent::new(&self.book[..book], &mut self.table[..table]);
+        let sent = Sent {
+            session: take.session,
+            octets: &take.octets,
+            stamp: &take.stamp,
         };
-        let taken = engine.take(
-            lent,
-            &self.state,
-            take.session,
-            &take.octets,
-            &take.stamp,
-            &mut self.space[..take.space],
-        );
+        let space = &mut self.space[..take.space];
+        let taken = engine.take(lent, &self.state, sent, space);
         self.state = taken.state;
         Answer {
             number: taken.number,
@@ -116,10 +113,8 @@ impl World {
     }
 
     fn outcome(&mut self, engine: &dyn Engine, outcome: &Outcome) -> Answer {
-        let lent = Lent {
-            book: &self.book[..outcome.sizes.book],
-            table: &mut self.table[..outcome.sizes.table],
-        };
+        let Sizes { book, table } = outcome.sizes;
+        let lent = Lent::new(&self.book[..book], &mut self.table[..table]);
         Answer {
             number: engine.outcome(lent, &self.state, &outcome.stamp, outcome.report),
             ..Answer::default()

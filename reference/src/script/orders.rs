@@ -5,7 +5,7 @@ use super::ScriptError;
 use crate::centre::{LONGEST_PDU, STAMP};
 use crate::compose::{Bind, Cancel, Query, Replace, Request, Role, Submit, Text};
 use crate::hex;
-use crate::printing::Order;
+use crate::printing::{Order, RecordedReport};
 
 const STEPS: &str = "stamp, sequence, open, bind, submit, query, cancel, replace, outcome, \
                      octets, unbind, enquire or close";
@@ -89,10 +89,12 @@ impl Reader {
         words.end()?;
         Ok(Order::Outcome {
             stamp: self.stamp,
-            account,
-            id,
-            outcome,
-            error,
+            report: RecordedReport {
+                account,
+                id,
+                outcome,
+                error,
+            },
         })
     }
 

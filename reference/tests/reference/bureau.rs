@@ -64,10 +64,7 @@ impl Bureau {
         octets: &[u8],
         space: &mut [u8],
     ) -> Result<Taken, Refusal> {
-        let lent = Lent {
-            book: &self.book,
-            table: &mut self.table,
-        };
+        let lent = Lent::new(&self.book, &mut self.table);
         Reference::sound().take(lent, &mut self.state, session, octets, &self.stamp, space)
     }
 
@@ -104,10 +101,7 @@ impl Bureau {
     }
 
     pub fn outcome(&mut self, account: usize, id: u32, outcome: u8) -> Result<(), Refusal> {
-        let lent = Lent {
-            book: &self.book,
-            table: &mut self.table,
-        };
+        let lent = Lent::new(&self.book, &mut self.table);
         let report = Report {
             account,
             id,

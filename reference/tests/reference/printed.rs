@@ -2,7 +2,7 @@
 
 use crate::bureau::{bind, plain_submit, Bureau, STAMP};
 use reference::compose::{Request, Role};
-use reference::printing::{read_book, run, Order, RECORD};
+use reference::printing::{read_book, run, Order, RecordedReport, RECORD};
 
 fn printed(book: &[u8], input: &[u8]) -> String {
     let mut output = Vec::new();
@@ -19,6 +19,19 @@ fn octets(request: &Request) -> Order {
         session: 0,
         stamp: *STAMP,
         octets: request.octets(7),
+    }
+}
+
+/// The first message of account 0 was delivered.
+fn first_delivered(error: u8) -> Order {
+    Order::Outcome {
+        stamp: *STAMP,
+        report: RecordedReport {
+            account: 0,
+            id: 1,
+            outcome: 2,
+            error,
+        },
     }
 }
 
@@ -46,14 +59,7 @@ fn bad_records_stop_the_program() {
     unknown[0] = 4;
     let mut long = octets(&Request::EnquireLink).record();
     long[2..4].copy_from_slice(&513u16.to_be_bytes());
-    let outcome = Order::Outcome {
-        stamp: *STAMP,
-        account: 0,
-        id: 1,
-        outcome: 2,
-        error: 0,
-    };
-    let mut short = outcome.record();
+    let mut short = first_delivered(0).record();
     short[3] = 6;
     for bad in [&unknown, &long, &short] {
         let input = [&good[..], bad, &good].concat();
@@ -102,20 +108,13 @@ fn books_of_a_wrong_size() {
 
 #[test]
 fn a_short_history() {
-    let outcome = Order::Outcome {
-        stamp: *STAMP,
-        account: 0,
-        id: 1,
-        outcome: 2,
-        error: 3,
-    };
     let input = records(&[
         OPEN,
         OPEN,
         octets(&bind(Role::Transmitter, b"paging", b"secret", b"VMA")),
         octets(&Request::Submit(plain_submit())),
-        outcome.clone(),
-        outcome,
+        first_delivered(3),
+        first_delivered(3),
         Order::Open { session: 16 },
         octets(&Request::Unbind),
         octets(&Request::Unbind),
@@ -143,10 +142,12 @@ fn records_are_read_as_they_are_written() {
         octets(&Request::Unbind),
         Order::Outcome {
             stamp: *STAMP,
-            account: 7,
-            id: 0x0102_0304,
-            outcome: 5,
-            error: 255,
+            report: RecordedReport {
+                account: 7,
+                id: 0x0102_0304,
+                outcome: 5,
+                error: 255,
+            },
         },
     ];
     for order in orders {
