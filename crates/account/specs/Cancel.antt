@@ -9,12 +9,12 @@ use Rattle.forms.specs.declared.text.MessageId.the-variants.{Empty, Number}
 use Rattle.wire.specs.Status.{invalidDestination, invalidMessageId, cannotCancel}
 use Rattle.requests.specs.Cancel.{cancelOf}
 use Rattle.requests.specs.declared.cancel.Cancel.{Cancel}
-use Rattle.store.specs.Layout.{places, sourceOf, destinationOf}
-use Rattle.store.specs.Book.{sameAddress}
-use Rattle.store.specs.Places.{recordAt, onPlace, onPlaces}
+use Rattle.records.specs.Layout.{places, sourceOf, destinationOf}
+use Rattle.records.specs.Book.{sameAddress}
+use Rattle.store.specs.Places.{recordAt, onPlace, onPlaces, onFound}
 use Rattle.store.specs.Search.{waiting, between, placeOf, pairPlace}
-use Rattle.store.specs.Change.{finished}
-use Rattle.account.specs.Source.{noAddress, sourceFor, onFound}
+use Rattle.changes.specs.Change.{finished}
+use Rattle.account.specs.Source.{noAddress, sourceFor}
 
 -- a status, and the account's part afterwards
 pub record Changed : Type 0 where

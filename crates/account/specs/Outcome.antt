@@ -3,10 +3,9 @@
 use Prim.Native.Nat.{ℕ}
 use mathlib.Core.List.{List}
 use Rattle.octets.specs.Choice.{if_then_else_}
-use Rattle.store.specs.Places.{recordAt, onPlace}
+use Rattle.store.specs.Places.{recordAt, onPlace, onFound}
 use Rattle.store.specs.Search.{waiting, placeOf}
-use Rattle.store.specs.Change.{finished}
-use Rattle.account.specs.Source.{onFound}
+use Rattle.changes.specs.Change.{finished}
 use Rattle.account.specs.Cancel.{Changed, changed}
 
 unfoldable pub reported : List ℕ → ℕ → ℕ → ℕ → List ℕ → Changed

@@ -7,12 +7,12 @@ use Rattle.octets.specs.Choice.{if_then_else_}
 use Rattle.wire.specs.Status.{invalidMessageId}
 use Rattle.requests.specs.Query.{queryOf}
 use Rattle.requests.specs.declared.query.Query.{Query}
-use Rattle.store.specs.Layout.{sourceOf}
-use Rattle.store.specs.Book.{sameAddress}
-use Rattle.store.specs.Places.{recordAt}
+use Rattle.records.specs.Layout.{sourceOf}
+use Rattle.records.specs.Book.{sameAddress}
+use Rattle.store.specs.Places.{recordAt, onFound}
 use Rattle.store.specs.declared.places.Found.{Found}
 use Rattle.store.specs.declared.places.Found.the-variants.{At, Nowhere}
-use Rattle.account.specs.Source.{sourceFor, known, onFound}
+use Rattle.account.specs.Source.{sourceFor, known}
 use Rattle.account.specs.declared.query.Asked.{Asked}
 
 -- the status, and the place of the record asked for

@@ -8,13 +8,13 @@ use Rattle.wire.specs.Status.{invalidMessageId, cannotReplace}
 use Rattle.wire.specs.Fields.{octetsOf}
 use Rattle.requests.specs.Replace.{replaceOf}
 use Rattle.requests.specs.declared.replace.Replace.{Replace}
-use Rattle.store.specs.Layout.{sourceOf}
-use Rattle.store.specs.Book.{sameAddress}
-use Rattle.store.specs.Places.{recordAt, onPlace}
+use Rattle.records.specs.Layout.{sourceOf}
+use Rattle.records.specs.Book.{sameAddress}
+use Rattle.store.specs.Places.{recordAt, onPlace, onFound}
 use Rattle.store.specs.Search.{waiting}
-use Rattle.store.specs.Change.{corrected}
-use Rattle.store.specs.declared.change.Correction.{Correction}
-use Rattle.account.specs.Source.{sourceFor, known, onFound}
+use Rattle.changes.specs.Change.{corrected}
+use Rattle.changes.specs.declared.Correction.{Correction}
+use Rattle.account.specs.Source.{sourceFor, known}
 use Rattle.account.specs.Cancel.{Changed, changed}
 
 abbrev pub correctionOf : Replace → Correction

@@ -8,7 +8,7 @@ use lib.Dec.{eqb}
 use Rattle.octets.specs.Choice.{if_then_else_}
 use Rattle.forms.specs.declared.text.MessageId.{MessageId}
 use Rattle.forms.specs.declared.text.MessageId.the-variants.{Empty, Number}
-use Rattle.store.specs.Book.{callbackOf}
+use Rattle.records.specs.Book.{callbackOf}
 use Rattle.store.specs.Search.{placeOf}
 use Rattle.store.specs.declared.places.Found.{Found}
 use Rattle.store.specs.declared.places.Found.the-variants.{At, Nowhere}
@@ -24,8 +24,3 @@ sourceFor book source = if noAddress source then callbackOf book else source
 unfoldable pub known : MessageId → List ℕ → Found
 known Empty xs = Nowhere
 known (Number id) xs = placeOf id xs
-
--- what is done with a place, or where there is none
-abbrev pub onFound : {A : Type 0} → Found → (ℕ → A) → A → A
-onFound (At k) here nowhere = here k
-onFound Nowhere here nowhere = nowhere

@@ -10,15 +10,15 @@ use Rattle.wire.specs.Status.{systemError, invalidDestination, queueFull}
 use Rattle.wire.specs.Fields.{octetsOf}
 use Rattle.requests.specs.Submit.{submitOf}
 use Rattle.requests.specs.declared.submit.Submit.{Submit}
-use Rattle.store.specs.Layout.{idOf}
-use Rattle.store.specs.Places.{recordAt, onPlace}
+use Rattle.records.specs.Layout.{idOf}
+use Rattle.store.specs.Places.{recordAt, onPlace, onFound}
 use Rattle.store.specs.Search.{pairPlace, newPlace}
-use Rattle.store.specs.Change.{newRecord, retexted}
+use Rattle.changes.specs.Change.{newRecord, retexted}
 use Rattle.store.specs.declared.places.Found.{Found}
 use Rattle.store.specs.declared.places.Found.the-variants.{Nowhere}
-use Rattle.store.specs.declared.change.Fields.{Fields}
+use Rattle.changes.specs.declared.Fields.{Fields}
 use Rattle.account.specs.declared.submit.Given.{Given}
-use Rattle.account.specs.Source.{noAddress, sourceFor, onFound}
+use Rattle.account.specs.Source.{noAddress, sourceFor}
 
 -- what a submission gives: the status, the id returned, and the account's part and last id afterwards
 pub record Submitted : Type 0 where

@@ -7,8 +7,8 @@ use wire::status;
 ghost use mathlib.Core.Path.{_≡_};
 ghost use Prim.Native.Nat.{_<_};
 ghost use lib.ListN.{length};
-ghost use Rattle.store.specs.Layout.{recordSize, places, partSize};
-ghost use Rattle.store.specs.Book.{bookRecordSize};
+ghost use Rattle.records.specs.Layout.{recordSize, places, partSize};
+ghost use Rattle.records.specs.Book.{bookRecordSize};
 ghost use Rattle.store.specs.Places.{recordAt, onPlace, onPlaces};
 ghost use Rattle.account.specs.Cancel.{changed, cancellable, cancelledOne, deletedIf, cancelledAll, cancelledBy, cancelled};
 
@@ -19,8 +19,8 @@ fn is_cancellable(part: &[u8], k: usize, source: &[u8; 22], destination: &[u8; 2
     ensures { λ x. ⌜ x ≡ cancellable (now (source .entry)) (now (destination .entry)) (recordAt k (now (part .entry))) ⌝ }
 {
     let r = store::places::record_at(part, k);
-    let fits = (destination[2] == 0) | store::book::is_same_address(&r[27..49], destination);
-    store::book::is_same_address(&r[5..27], source) & fits & (r[0] == 1)
+    let fits = (destination[2] == 0) | records::book::is_same_address(&r[27..49], destination);
+    records::book::is_same_address(&r[5..27], source) & fits & (r[0] == 1)
 }
 
 fn cancel_one(
@@ -40,7 +40,7 @@ fn cancel_one(
     if !is_cancellable(&part[..], k, source, destination) {
         return status::CANNOT_CANCEL;
     }
-    store::change::finish(part, k, DELETED, 0, stamp);
+    changes::finish(part, k, DELETED, 0, stamp);
     status::OK
 }
 
@@ -49,7 +49,7 @@ fn delete_if(part: &mut [u8], k: usize, source: &[u8; 22], destination: &[u8; 22
     ensures { λ _. ⌜ now (part .exit) ≡ onPlace (deletedIf (now (source .entry)) (now (destination .entry)) (now (stamp .entry))) k (now (part .entry)) ⌝ }
 {
     if store::search::is_pair_at(&part[..], k, source, destination) {
-        store::change::finish(part, k, DELETED, 0, stamp);
+        changes::finish(part, k, DELETED, 0, stamp);
     }
 }
 

@@ -2,7 +2,7 @@
 use store::places::Found;
 ghost use mathlib.Core.Path.{_≡_};
 ghost use lib.ListN.{length};
-ghost use Rattle.store.specs.Layout.{partSize};
+ghost use Rattle.records.specs.Layout.{partSize};
 ghost use Rattle.account.specs.Cancel.{changed};
 ghost use Rattle.account.specs.Outcome.{reported};
 
@@ -19,6 +19,6 @@ pub fn report(part: &mut [u8], stamp: &[u8], id: u32, state: u8, error: u8) -> u
     if !store::places::is_waiting_at(&part[..], k) {
         return NOT_WAITING;
     }
-    store::change::finish(part, k, state, error, stamp);
+    changes::finish(part, k, state, error, stamp);
     0
 }

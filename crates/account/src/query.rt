@@ -5,8 +5,8 @@ use store::places::Found;
 use wire::status;
 ghost use mathlib.Core.Path.{_≡_};
 ghost use lib.ListN.{length};
-ghost use Rattle.store.specs.Layout.{partSize};
-ghost use Rattle.store.specs.Book.{bookRecordSize};
+ghost use Rattle.records.specs.Layout.{partSize};
+ghost use Rattle.records.specs.Book.{bookRecordSize};
 ghost use Rattle.store.specs.Places.{OnePlace};
 ghost use Rattle.account.specs.Query.{lookedUp, queried};
 
@@ -32,7 +32,7 @@ fn look_up(book: &[u8], part: &[u8], q: Query) -> Asked
         };
     };
     let r = store::places::record_at(part, k);
-    if store::book::is_same_address(&r[5..27], &octets) {
+    if records::book::is_same_address(&r[5..27], &octets) {
         Asked {
             status: status::OK,
             place: Found::At(k),

@@ -1,7 +1,7 @@
 // replace_sm.
 use crate::source;
+use changes::Correction;
 use requests::replace::Replace;
-use store::change::Correction;
 use store::places::Found;
 use wire::fields;
 use wire::status;
@@ -10,8 +10,8 @@ ghost use mathlib.Core.Bool.{_&&_};
 ghost use Prim.Native.Nat.{_<_};
 ghost use lib.ListN.{length};
 ghost use Rattle.requests.specs.Replace.{ReplaceInside};
-ghost use Rattle.store.specs.Layout.{places, partSize, sourceOf};
-ghost use Rattle.store.specs.Book.{bookRecordSize, sameAddress};
+ghost use Rattle.records.specs.Layout.{places, partSize, sourceOf};
+ghost use Rattle.records.specs.Book.{bookRecordSize, sameAddress};
 ghost use Rattle.store.specs.Places.{recordAt};
 ghost use Rattle.store.specs.Search.{waiting};
 ghost use Rattle.account.specs.Cancel.{changed};
@@ -22,7 +22,7 @@ fn is_replaceable(part: &[u8], k: usize, source: &[u8; 22]) -> bool
     ensures { λ r. ⌜ r ≡ (sameAddress (sourceOf (recordAt k (now (part .entry)))) (now (source .entry)) && waiting (recordAt k (now (part .entry)))) ⌝ }
 {
     let r = store::places::record_at(part, k);
-    store::book::is_same_address(&r[5..27], source) & (r[0] == 1)
+    records::book::is_same_address(&r[5..27], source) & (r[0] == 1)
 }
 
 fn replace_in(part: &mut [u8], source: &[u8; 22], r: Replace, body: &[u8]) -> u8
@@ -48,7 +48,7 @@ fn replace_in(part: &mut [u8], source: &[u8; 22], r: Replace, body: &[u8]) -> u8
         default: r.default,
     };
     let text = r.text;
-    store::change::correct(part, k, correction, fields::octets_of(body, text));
+    changes::correct(part, k, correction, fields::octets_of(body, text));
     status::OK
 }
 

@@ -4,8 +4,8 @@ use store::places::Found;
 use wire::fields::Address;
 ghost use mathlib.Core.Path.{_≡_};
 ghost use lib.ListN.{length};
-ghost use Rattle.store.specs.Layout.{partSize};
-ghost use Rattle.store.specs.Book.{bookRecordSize};
+ghost use Rattle.records.specs.Layout.{partSize};
+ghost use Rattle.records.specs.Book.{bookRecordSize};
 ghost use Rattle.store.specs.Places.{OnePlace};
 ghost use Rattle.account.specs.Source.{noAddress, sourceFor, known};
 

@@ -1,8 +1,8 @@
 // submit_sm.
 use crate::source;
+use changes::Fields;
 use forms::text::MessageId;
 use requests::submit::Submit;
-use store::change::Fields;
 use store::places::Found;
 use wire::fields;
 use wire::fields::Address;
@@ -10,8 +10,8 @@ use wire::status;
 ghost use mathlib.Core.Path.{_≡_};
 ghost use lib.ListN.{length};
 ghost use Rattle.requests.specs.Submit.{SubmitInside};
-ghost use Rattle.store.specs.Layout.{partSize};
-ghost use Rattle.store.specs.Book.{bookRecordSize};
+ghost use Rattle.records.specs.Layout.{partSize};
+ghost use Rattle.records.specs.Book.{bookRecordSize};
 ghost use Rattle.store.specs.Places.{OnePlace};
 ghost use Rattle.account.specs.Submit.{Submitted, refused, fieldsOf, added, toReplace, stored, submitted, gave};
 
@@ -73,7 +73,7 @@ fn add(part: &mut [u8], last: u32, source: Address, s: Submit, body: &[u8]) -> G
     let id = last + 1;
     let service = s.service;
     let text = s.text;
-    store::change::put_new(
+    changes::put_new(
         part,
         k,
         id,
@@ -113,7 +113,7 @@ fn store_in(part: &mut [u8], last: u32, source: Address, s: Submit, body: &[u8])
     };
     let id = store::places::id_at(&part[..], k);
     let text = s.text;
-    store::change::retext(part, k, s.default, fields::octets_of(body, text));
+    changes::retext(part, k, s.default, fields::octets_of(body, text));
     Given {
         status: status::OK,
         id: MessageId::Number(id),

@@ -7,16 +7,17 @@ use lib.Dec.{ltb, eqb}
 use lib.ListN.{length}
 use Rattle.octets.specs.Choice.{if_then_else_}
 use Rattle.forms.specs.Time.{sentTime}
-use Rattle.wire.specs.Reply.{spaceNeeded}
-use Rattle.store.specs.Book.{bookSize, bookRecord}
+use Rattle.answers.specs.Reply.{spaceNeeded}
+use Rattle.records.specs.Book.{bookSize, bookRecord}
 use Rattle.session.specs.declared.State.{State}
 use Rattle.session.specs.declared.Moved.{Moved}
 use Rattle.isolation.specs.Platform.{World, Step, Ran, Effect, Request, taken, reported, picked, Machine, tableSize}
 use Rattle.isolation.specs.Platform as P
-use Rattle.centre.specs.Answer.{Octets, Outcome, Answer, numbered, refusedOctets, refusedPick}
-use Rattle.centre.specs.Answer as A
-use Rattle.centre.specs.Open.{onOpen}
-use Rattle.centre.specs.Bound.{isTransmitter, onBound, onOutcome, onPick}
+use Rattle.answers.specs.Answer.{Octets, Outcome, Answer, numbered, refusedOctets, refusedPick}
+use Rattle.answers.specs.Answer as A
+use Rattle.open.specs.Open.{onOpen}
+use Rattle.bound.specs.Bound.{isTransmitter, onBound}
+use Rattle.centre.specs.Operations.{onOutcome, onPick}
 use Rattle.centre.specs.declared.take.Taken.{Taken}
 
 -- 3: book not 512 octets or table not 32,768
@@ -91,17 +92,6 @@ takes r table space =
 
 abbrev pub reports : ℕ → State → List ℕ → Ran Answer
 reports number state table = record { answer = numbered number; world = world state table }
-
--- the number and the record of a pick's answer
-abbrev pub pickedNumber : Answer → ℕ
-pickedNumber (A.numbered n) = n
-pickedNumber (A.taken n c w space) = n
-pickedNumber (A.picked n r) = n
-
-abbrev pub pickedRecord : Answer → List ℕ
-pickedRecord (A.numbered n) = []
-pickedRecord (A.taken n c w space) = []
-pickedRecord (A.picked n r) = r
 
 -- ---- what no early number tells of the arguments
 

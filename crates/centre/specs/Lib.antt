@@ -1,5 +1,3 @@
-pub mod Answer
-pub mod Open
-pub mod Bound
+pub mod Operations
 pub mod Centre
 pub mod Pick

@@ -4,11 +4,11 @@ use mathlib.Core.Path.{_≡_}
 use mathlib.Core.List.{List, []}
 use lib.ListN.{length}
 use Rattle.octets.specs.Stretch.{part}
-use Rattle.store.specs.Layout.{recordSize, places}
-use Rattle.store.specs.Book.{bookSize}
+use Rattle.records.specs.Layout.{recordSize, places}
+use Rattle.records.specs.Book.{bookSize}
 use Rattle.store.specs.Places.{recordAt}
 use Rattle.isolation.specs.Platform.{tableSize}
-use Rattle.centre.specs.Answer.{Answer, picked}
+use Rattle.answers.specs.Answer.{Answer, picked}
 use Rattle.centre.specs.declared.operations.Placed.{Placed}
 use Rattle.centre.specs.declared.operations.Placed.the-variants.{Refused, Place}
 use Rattle.centre.specs.declared.operations.Located.{Located}

@@ -1,6 +1,3 @@
-// The message centre: framing, dispatch, the order of refusals, and the public operations.
-pub mod bound;
-pub mod number;
-pub mod open;
+// The message centre: the order of refusals, which account is asked, and the public operations.
 pub mod operations;
 pub mod take;

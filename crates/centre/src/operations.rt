@@ -1,16 +1,17 @@
 // Reporting an outcome and picking the next message to send.
-use crate::number;
+use answers::number;
 use session::State;
 use store::places::Found;
 ghost use mathlib.Core.Path.{_≡_};
 ghost use Prim.Native.Nat.{_<_, _≤_};
 ghost use lib.ListN.{length};
-ghost use Rattle.store.specs.Layout.{partSize};
-ghost use Rattle.store.specs.Book.{bookRecordSize};
+ghost use Rattle.records.specs.Layout.{partSize};
+ghost use Rattle.records.specs.Book.{bookRecordSize};
 ghost use Rattle.isolation.specs.Platform.{Step};
-ghost use Rattle.centre.specs.Answer.{numbered};
-ghost use Rattle.centre.specs.Bound.{keeping, outcomeOk, onOutcome, onPick};
-ghost use Rattle.centre.specs.Centre.{outcomeEarly, pickEarly, step, world, reports, pickedNumber, pickedRecord};
+ghost use Rattle.answers.specs.Answer.{numbered, numberOf, pickedRecord};
+ghost use Rattle.bound.specs.Bound.{keeping};
+ghost use Rattle.centre.specs.Operations.{outcomeOk, onOutcome, onPick};
+ghost use Rattle.centre.specs.Centre.{outcomeEarly, pickEarly, step, world, reports};
 ghost use Rattle.centre.specs.Pick.{placed, PlacedInside, located, LocatedInside, Stamped, Sized};
 
 fn check_outcome(book: usize, table: usize, stamp: &[u8]) -> u8
@@ -72,7 +73,7 @@ pub fn outcome(
     if 8 <= account {
         return number::NO_ACCOUNT;
     }
-    let record = store::book::record_of(book, account);
+    let record = records::book::record_of(book, account);
     let last = state.last(account);
     let at = 4096 * account;
     on_outcome(
@@ -132,7 +133,7 @@ fn locate(book: &[u8], table: &[u8], state: State, account: usize) -> Located
     if 8 <= account {
         return Located::Refused(number::NO_ACCOUNT);
     }
-    let record = store::book::record_of(book, account);
+    let record = records::book::record_of(book, account);
     let last = state.last(account);
     let at = 4096 * account;
     let placed = on_pick(record, &table[at..at + 4096], last);
@@ -144,7 +145,7 @@ fn locate(book: &[u8], table: &[u8], state: State, account: usize) -> Located
 
 // Whether there is a message to send: 3, 7, 9, 11, or 0.
 pub fn pick_number(book: &[u8], table: &[u8], state: State, account: usize) -> u8
-    ensures { λ r. ⌜ r ≡ pickedNumber (step (now (book .entry)) (world state (now (table .entry))) (Step.picks account) .answer) ⌝ }
+    ensures { λ r. ⌜ r ≡ numberOf (step (now (book .entry)) (world state (now (table .entry))) (Step.picks account) .answer) ⌝ }
 {
     let located = locate(book, table, state, account);
     match located {

@@ -1,20 +1,18 @@
 // Taking octets on a session.
-use crate::bound;
-use crate::number;
-use crate::open;
+use answers::number;
 use session::Entry;
 use session::State;
 ghost use mathlib.Core.Path.{_≡_};
 ghost use Prim.Native.Nat.{ℕ, _<_, _≤_};
 ghost use mathlib.Core.List.{List};
 ghost use lib.ListN.{length};
-ghost use Rattle.wire.specs.Reply.{spaceNeeded};
-ghost use Rattle.store.specs.Book.{bookSize};
+ghost use Rattle.answers.specs.Reply.{spaceNeeded};
+ghost use Rattle.records.specs.Book.{bookSize};
 ghost use Rattle.session.specs.State.{sessionCount};
 ghost use Rattle.session.specs.declared.Entry.the-variants.{Open};
 ghost use Rattle.isolation.specs.Platform.{tableSize, Step, octetsOf, octetsOn};
 ghost use Rattle.octets.specs.Choice.{if_then_else_};
-ghost use Rattle.centre.specs.Bound.{isTransmitter};
+ghost use Rattle.bound.specs.Bound.{isTransmitter};
 ghost use Rattle.centre.specs.Centre.{octetsEarly, Fit, centre, step, world, takes};
 
 // A number, how many octets were consumed and written, and the state handed back.
@@ -93,7 +91,7 @@ fn take_bound(
         return refuse(number::ACCOUNT_ILL_FORMED, state);
     }
     let account = a as usize;
-    let record = store::book::record_of(book, account);
+    let record = records::book::record_of(book, account);
     let last = state.last(account);
     let at = 4096 * account;
     let acted = bound::on_bound(

@@ -14,13 +14,13 @@ use Rattle.forms.specs.Time.{storedTime}
 use Rattle.forms.specs.declared.text.MessageId.{MessageId}
 use Rattle.forms.specs.declared.text.MessageId.the-variants.{Empty, Number}
 use Rattle.requests.proofs.Examples.{computed, ended, none, letters, sevens, office, address, noAddress, december, hello, paging, secret, vma, submitWith, cancelWith, replaceWith}
-use Rattle.store.specs.Layout.{recordSize, stateOf, idOf, textFieldOf}
-use Rattle.store.specs.Record.{textOk, fieldsOk, endOk, messageOk, recordOk}
-use Rattle.store.specs.Book.{bookOk, usedOk, sameName, sameAddress, named, passwordIs}
+use Rattle.records.specs.Layout.{recordSize, stateOf, idOf, textFieldOf}
+use Rattle.records.specs.Record.{textOk, fieldsOk, endOk, messageOk, recordOk}
+use Rattle.records.specs.Book.{bookOk, usedOk, sameName, sameAddress, named, passwordIs}
 use Rattle.store.specs.Places.{records, recordAt, over, keep, lowest, onPlaces}
 use Rattle.store.specs.Search.{orElse, nextPlace, namedPlace}
 use Rattle.store.specs.Account.{apart, placesOk, accountOk}
-use Rattle.store.specs.Change.{newRecord, finished, retexted, corrected}
+use Rattle.changes.specs.Change.{newRecord, finished, retexted, corrected}
 use Rattle.store.specs.declared.places.Found.{Found}
 use Rattle.store.specs.declared.places.Found.the-variants.{At, Nowhere}
 use Rattle.account.specs.Source.{sourceFor, known}

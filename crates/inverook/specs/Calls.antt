@@ -3,13 +3,13 @@ use Prim.Native.Nat.{ℕ, _+_, _*_}
 use mathlib.Core.List.{List}
 use lib.Dec.{eqb}
 use Rattle.octets.specs.Choice.{if_then_else_}
-use Rattle.store.specs.Layout.{recordSize}
+use Rattle.records.specs.Layout.{recordSize}
 use Rattle.store.specs.Search.{nextPlace}
 use Rattle.store.specs.declared.places.Found.{Found}
 use Rattle.store.specs.declared.places.Found.the-variants.{At, Nowhere}
 use Rattle.isolation.specs.Platform.{Ran, partSize, tableSize, partOf}
-use Rattle.centre.specs.Answer.{Answer, numbered}
-use Rattle.centre.specs.Answer as A
+use Rattle.answers.specs.Answer.{Answer, numbered}
+use Rattle.answers.specs.Answer as A
 use Rattle.inverook.specs.Flat.{flatOf}
 use Rattle.inverook.specs.declared.flat.InverookState.{InverookState}
 use Rattle.inverook.specs.declared.InverookMoved.{InverookMoved}

@@ -7,7 +7,8 @@ ghost use mathlib.Core.Path.{_≡_};
 ghost use Prim.Native.Nat.{ℕ};
 ghost use mathlib.Core.List.{List};
 ghost use Rattle.isolation.specs.Platform.{Step};
-ghost use Rattle.centre.specs.Centre.{step, world, reports, pickedNumber};
+ghost use Rattle.centre.specs.Centre.{step, world, reports};
+ghost use Rattle.answers.specs.Answer.{numberOf};
 ghost use Rattle.inverook.specs.Flat.{stateOf};
 ghost use Rattle.inverook.specs.Calls.{moved, taken, flatly, pickedAt};
 
@@ -103,7 +104,7 @@ pub extern "C" fn inverook_pick_number(
     state: InverookState,
     account: usize,
 ) -> u8
-    ensures { λ r. ⌜ r ≡ pickedNumber (step (now (book .entry)) (world (stateOf state) (now (table .entry))) (Step.picks account) .answer) ⌝ }
+    ensures { λ r. ⌜ r ≡ numberOf (step (now (book .entry)) (world (stateOf state) (now (table .entry))) (Step.picks account) .answer) ⌝ }
 {
     let held = flat::state_of(state);
     centre::operations::pick_number(book, table, held, account)
@@ -120,7 +121,7 @@ pub extern "C" fn inverook_pick_at(
     state: InverookState,
     account: usize,
 ) -> usize
-    ensures { λ r. ⌜ r ≡ pickedAt (pickedNumber (step (now (book .entry)) (world (stateOf state) (now (table .entry))) (Step.picks account) .answer)) account (now (table .entry)) ⌝ }
+    ensures { λ r. ⌜ r ≡ pickedAt (numberOf (step (now (book .entry)) (world (stateOf state) (now (table .entry))) (Step.picks account) .answer)) account (now (table .entry)) ⌝ }
 {
     let held = flat::state_of(state);
     let number = centre::operations::pick_number(book, table, held, account);

@@ -36,7 +36,7 @@ pub fn put_number(target: &mut [u8], at: usize, n: u32)
 }
 
 // The upper-case hex digit of a number below 16.
-fn hex_digit(d: u32) -> u8
+pub fn hex_digit(d: u32) -> u8
     requires { ⌜ d < 16 ⌝ }
     ensures { λ r. ⌜ r ≡ hexDigit d ⌝ }
 {

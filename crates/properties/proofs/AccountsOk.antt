@@ -8,9 +8,11 @@ use mathlib.Core.List.{List, [], _∷_}
 use lib.Dec.{leb, ltb, eqb}
 use lib.ListN.{length, replicate}
 use borrow.Author.Tests.{ltb-true, eqb-true, eqb-false, not-false}
+use Rattle.octets.specs.Stretch.{isZero}
 use Rattle.octets.proofs.StretchLaws.{if-cases, part-length}
+use Rattle.records.proofs.RecordLaws.{zeros-part}
 use Rattle.forms.specs.Time.{sentTime}
-use Rattle.store.specs.Book.{bookSize, bookRecord, bookRecordSize, usedOk}
+use Rattle.records.specs.Book.{bookSize, bookRecord, bookRecordSize, usedOk}
 use Rattle.store.specs.Account.{accountOk}
 use Rattle.session.specs.State.{sessionCount, accountCount, entryAt, lastAt, opened, openedFrom, closed}
 use Rattle.session.specs.declared.Entry.{Entry}
@@ -20,15 +22,17 @@ use Rattle.isolation.specs.Platform.{partSize, tableSize, World, fresh, partOf,
 use Rattle.isolation.specs.History.{after}
 use Rattle.isolation.proofs.Sizes.{Sized, sized-fresh, sized-step, sized-entry, asked-length}
 use Rattle.isolation.proofs.Views.{View, view-own, view-other}
-use Rattle.centre.specs.Answer.{Octets, Outcome, Answer}
-use Rattle.centre.specs.Bound.{Turn, replying, isTransmitter, onBound, outcomeOk, onOutcome}
+use Rattle.answers.specs.Answer.{Octets, Outcome, Answer}
+use Rattle.bound.specs.Bound.{Turn, replying, isTransmitter, onBound}
+use Rattle.centre.specs.Operations.{outcomeOk, onOutcome}
 use Rattle.centre.specs.Centre.{centre, act, earlyOctets, earlyOutcome}
 use Rattle.wellformed.proofs.Accounts.{submitted-ok, cancelled-ok, replaced-ok, reported-ok}
 use Rattle.wellformed.proofs.GoodPartIs.{good-account}
 use Rattle.wellformed.proofs.Issued.{issued-bits}
+use Rattle.wellformed.proofs.TextFields.{every-replicate}
 use Rattle.properties.proofs.BoundCases.{bound-cases}
 use Rattle.properties.proofs.Early.{early-octets, early-outcome}
-use Rattle.properties.proofs.FreshOk.{zeros-replicate, zeros-part, zeros-at, zeros-good}
+use Rattle.properties.proofs.FreshOk.{zeros-at, zeros-good}
 use Rattle.properties.proofs.Isolated.{keeps}
 use Rattle.properties.proofs.Unique.{property2}
 
@@ -163,9 +167,9 @@ module _ (book : List ℕ) (A : ℕ) (below : A < accountCount) where
   fine-fresh : usedOk (bookRecord A book) ≡ true → FineIn fresh
   unfolding fresh
   fine-fresh used =
-      let z = zeros-at (replicate accountCount 0) A (zeros-replicate accountCount) in
+      let z = zeros-at (replicate accountCount 0) A (every-replicate isZero accountCount 0 refl) in
       record {
-        ok = good-account _ _ _ used (zeros-good _ _ (zeros-part (partSize * A) partSize (replicate tableSize 0) (zeros-replicate tableSize)));
+        ok = good-account _ _ _ used (zeros-good _ _ (zeros-part (partSize * A) partSize (replicate tableSize 0) (every-replicate isZero tableSize 0 refl)));
         bits = omega (arith, z);
       }
 

@@ -13,8 +13,9 @@ use Rattle.session.specs.declared.Entry.{Entry}
 use Rattle.session.specs.declared.Session.{Session}
 use Rattle.session.specs.declared.State.{State}
 use Rattle.isolation.specs.Platform.{World, partSize, partOf, Effect, Ran, unchanged, put, putEntry}
-use Rattle.centre.specs.Answer.{Answer, picked, refusedPick}
-use Rattle.centre.specs.Bound.{keeping, onPick}
+use Rattle.answers.specs.Answer.{Answer, picked, refusedPick}
+use Rattle.bound.specs.Bound.{keeping}
+use Rattle.centre.specs.Operations.{onPick}
 use Rattle.centre.specs.Centre.{centre, world}
 use Rattle.centre.proofs.StateLaws.{issued-same}
 use Rattle.wellformed.proofs.Cases.{found-cases}

@@ -6,7 +6,7 @@ use mathlib.Core.List.{List}
 use Prim.Native.Nat.{ℕ}
 use Rattle.octets.proofs.StretchLaws.{if-cases}
 use Rattle.wire.specs.Frame.{frameOf}
-use Rattle.wire.specs.Reply.{submitBody}
+use Rattle.answers.specs.Reply.{submitBody, noQuery}
 use Rattle.wire.specs.declared.frame.Frame.{Frame}
 use Rattle.wire.specs.declared.frame.Frame.the-variants.{More, Malformed, Whole}
 use Rattle.store.specs.Account.{accountOk}
@@ -16,9 +16,8 @@ use Rattle.account.specs.Query.{queried}
 use Rattle.account.specs.Cancel.{cancelled}
 use Rattle.account.specs.Replace.{replaced}
 use Rattle.isolation.specs.Platform.{Effect}
-use Rattle.centre.specs.Answer.{Octets, Answer, taken, refusedOctets, silent}
-use Rattle.centre.specs.Open.{nakLength}
-use Rattle.centre.specs.Bound.{Turn, refusing, noQuery, foundBody, submitTurn, queryTurn, changing, cancelTurn, replaceTurn, unbindTurn, replying, keeping, boundCommand, boundFrame, onBound}
+use Rattle.answers.specs.Answer.{nakLength, Octets, Answer, taken, refusedOctets, silent}
+use Rattle.bound.specs.Bound.{Turn, refusing, foundBody, submitTurn, queryTurn, changing, cancelTurn, replaceTurn, unbindTurn, replying, keeping, boundCommand, boundFrame, onBound}
 use Rattle.wellformed.proofs.Cases.{found-cases}
 
 module _ (book : List ℕ) (x : Octets) (part : List ℕ) (last : ℕ) where

@@ -8,8 +8,8 @@ use lib.Dec.{ltb, eqb}
 use borrow.Author.Tests.{ltb-false, eqb-true, not-false}
 use Rattle.octets.proofs.StretchLaws.{or-left, or-right, if-cases}
 use Rattle.forms.specs.Time.{sentTime}
-use Rattle.wire.specs.Reply.{spaceNeeded}
-use Rattle.store.specs.Book.{bookSize}
+use Rattle.answers.specs.Reply.{spaceNeeded}
+use Rattle.records.specs.Book.{bookSize}
 use Rattle.isolation.specs.Platform.{tableSize}
 use Rattle.centre.specs.Centre.{wrongSizes, octetsEarly, outcomeEarly, pickEarly}
 

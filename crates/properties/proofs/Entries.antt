@@ -15,7 +15,7 @@ use Rattle.wire.specs.Frame.{frameOf}
 use Rattle.wire.specs.declared.frame.Frame.{Frame}
 use Rattle.wire.specs.declared.frame.Frame.the-variants.{More, Malformed, Whole}
 use Rattle.requests.specs.Bind.{bindOf}
-use Rattle.store.specs.Book.{bookRecord, usedOk, passwordIs}
+use Rattle.records.specs.Book.{bookRecord, usedOk, passwordIs}
 use Rattle.store.specs.Search.{namedPlace}
 use Rattle.session.specs.State.{sessionCount, accountCount, closedSession, entryAt, opened, openedFrom, closed}
 use Rattle.session.specs.declared.Entry.{Entry}
@@ -25,9 +25,9 @@ use Rattle.session.specs.declared.Session.{Session}
 use Rattle.isolation.specs.Platform.{World, fresh, Step, opens, closes, octets, outcome, picks, Front, Ran, ask, taken, move, octetsOn, step}
 use Rattle.isolation.specs.Platform as P
 use Rattle.isolation.specs.History.{boundTo, after}
-use Rattle.centre.specs.Answer.{Octets, Outcome, Answer}
-use Rattle.centre.specs.Open.{notBound, legOf, bindTo, openBind, openCommand, openFrame, onOpen}
-use Rattle.centre.specs.declared.open.Bound.{Bound}
+use Rattle.answers.specs.Answer.{Octets, Outcome, Answer}
+use Rattle.open.specs.Open.{notBound, legOf, bindTo, openBind, openCommand, openFrame, onOpen}
+use Rattle.open.specs.declared.Bound.{Bound}
 use Rattle.centre.specs.Centre.{centre, earlyOctets, earlyOutcome, earlyPick}
 use Rattle.wellformed.proofs.Cases.{found-cases, read-cases}
 use Rattle.properties.proofs.Named.{named-used}

@@ -4,9 +4,9 @@ use mathlib.Core.Path.{_≡_, refl}
 use mathlib.Core.Bool.{true}
 use mathlib.Core.List.{List}
 use Rattle.isolation.specs.Platform.{World, Step, opens, closes, octets, outcome, picks}
-use Rattle.centre.specs.Answer.{Octets, Outcome}
+use Rattle.answers.specs.Answer.{Octets, Outcome, numberOf}
 use Rattle.centre.specs.Centre.{step}
-use Rattle.properties.specs.Property1.{numberOf, numbersOf, among, Property1}
+use Rattle.properties.specs.Property1.{numbersOf, among, Property1}
 use Rattle.properties.proofs.Numbers.{opens-number, closes-number, octets-number, outcome-step, pick-step}
 use Rattle.properties.proofs.Right.{right}
 use Rattle.properties.proofs.Refused.{refused-step}

@@ -5,11 +5,11 @@ use mathlib.Core.Bool.{true, false}
 use mathlib.Core.List.{List}
 use lib.Dec.{eqb}
 use borrow.Author.Tests.{eqb-false}
-use Rattle.store.specs.Book.{bookRecord, usedOk}
+use Rattle.records.specs.Book.{bookRecord, usedOk}
 use Rattle.session.specs.State.{accountCount}
 use Rattle.isolation.specs.Platform.{fresh, Step}
 use Rattle.isolation.specs.History.{after}
-use Rattle.centre.specs.Answer.{Octets, Outcome}
+use Rattle.answers.specs.Answer.{Octets, Outcome}
 use Rattle.centre.specs.Centre.{centre}
 use Rattle.properties.specs.Property1.{wellFormed}
 use Rattle.properties.specs.Healthy.{Healthy}

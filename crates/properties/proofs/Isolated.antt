@@ -10,9 +10,10 @@ use Rattle.store.specs.Search.{nextPlace}
 use Rattle.isolation.specs.Platform.{Effect, taken, reported, picked}
 use Rattle.isolation.specs.Isolation.{Keeps}
 use Rattle.isolation.proofs.Theorem.{isolated, alone}
-use Rattle.centre.specs.Answer.{Octets, Outcome, Answer, refusedPick}
-use Rattle.centre.specs.Answer as A
-use Rattle.centre.specs.Bound.{Turn, replying, keeping, onBound, onOutcome, onPick}
+use Rattle.answers.specs.Answer.{Octets, Outcome, Answer, refusedPick}
+use Rattle.answers.specs.Answer as A
+use Rattle.bound.specs.Bound.{Turn, replying, keeping, onBound}
+use Rattle.centre.specs.Operations.{onOutcome, onPick}
 use Rattle.centre.specs.Centre.{act, centre}
 use Rattle.wellformed.proofs.Cases.{found-cases}
 use Rattle.wellformed.proofs.Lengths.{submitted-length, cancelled-length, replaced-length, reported-length}

@@ -9,12 +9,12 @@ use Rattle.octets.proofs.StretchLaws.{if-cases}
 use Rattle.forms.specs.Field.{textOf}
 use Rattle.forms.proofs.TextLaws.{textOf-within}
 use Rattle.wire.specs.Frame.{frameOf}
-use Rattle.wire.specs.Reply.{over}
+use Rattle.answers.specs.Reply.{over, noQuery}
 use Rattle.wire.specs.declared.frame.Frame.{Frame}
 use Rattle.wire.specs.declared.frame.Frame.the-variants.{More, Malformed, Whole}
-use Rattle.wire.proofs.ReplyLaws.{reply-length, idText-within, queryBody-length}
+use Rattle.answers.proofs.ReplyLaws.{reply-length, idText-within, queryBody-length}
 use Rattle.forms.specs.declared.text.MessageId.the-variants.{Empty, Number}
-use Rattle.store.specs.Layout.{stateOf, idOf, dateOf, errorOf}
+use Rattle.records.specs.Layout.{stateOf, idOf, dateOf, errorOf}
 use Rattle.store.specs.Places.{recordAt}
 use Rattle.account.specs.Query.{queried}
 use Rattle.account.specs.Submit.{submitted}
@@ -23,9 +23,9 @@ use Rattle.session.specs.declared.Entry.{Entry}
 use Rattle.session.specs.declared.Entry.the-variants.{Closed, Open, Transmitter, Receiver, Ended}
 use Rattle.isolation.specs.Platform.{World, Effect, Front, Ran, octetsOn, step}
 use Rattle.wellformed.proofs.Cases.{found-cases}
-use Rattle.centre.specs.Answer.{Octets, Answer, repliedTo}
-use Rattle.centre.specs.Open.{openBind, openCommand, openFrame, onOpen}
-use Rattle.centre.specs.Bound.{Turn, refusing, noQuery, foundBody, wireState, submitTurn, queryTurn, cancelTurn, replaceTurn, unbindTurn, replying, boundCommand, boundFrame, onBound}
+use Rattle.answers.specs.Answer.{Octets, Answer, repliedTo}
+use Rattle.open.specs.Open.{openBind, openCommand, openFrame, onOpen}
+use Rattle.bound.specs.Bound.{Turn, refusing, foundBody, wireState, submitTurn, queryTurn, cancelTurn, replaceTurn, unbindTurn, replying, boundCommand, boundFrame, onBound}
 use Rattle.centre.specs.Centre.{centre, act}
 use Rattle.properties.specs.Property1.{writtenOf}
 use Rattle.properties.specs.Longest.{Longest}

@@ -11,11 +11,11 @@ use Rattle.octets.proofs.StretchLaws.{if-cases}
 use Rattle.wire.specs.Frame.{frameOf}
 use Rattle.wire.specs.declared.frame.Frame.{Frame}
 use Rattle.wire.specs.declared.frame.Frame.the-variants.{More, Malformed, Whole}
-use Rattle.store.specs.Book.{bookRecord}
+use Rattle.records.specs.Book.{bookRecord}
 use Rattle.store.specs.Account.{accountOk}
 use Rattle.store.specs.Places.{recordAt, onPlace}
 use Rattle.store.specs.Search.{waiting, placeOf, nextPlace}
-use Rattle.store.specs.Change.{finished}
+use Rattle.changes.specs.Change.{finished}
 use Rattle.account.specs.Cancel.{Changed, changed}
 use Rattle.account.specs.Outcome.{reported}
 use Rattle.session.specs.State.{sessionCount, accountCount, entryAt, lastAt, opened, openedFrom, closed}
@@ -24,12 +24,13 @@ use Rattle.session.specs.declared.Entry.the-variants.{Closed, Open, Transmitter
 use Rattle.session.specs.declared.Moved.{Moved}
 use Rattle.isolation.specs.Platform.{World, partOf, opens, closes, octets, outcome, picks, Effect, Ran, octetsOf, octetsOn, step}
 use Rattle.isolation.specs.History.{boundTo}
-use Rattle.centre.specs.Answer.{Octets, Outcome, Answer, picked, refusedPick}
-use Rattle.centre.specs.Open.{openFrame, onOpen}
-use Rattle.centre.specs.Bound.{Turn, replying, keeping, isTransmitter, onBound, onOutcome, onPick}
+use Rattle.answers.specs.Answer.{Octets, Outcome, Answer, picked, refusedPick, numberOf}
+use Rattle.open.specs.Open.{openFrame, onOpen}
+use Rattle.bound.specs.Bound.{Turn, replying, keeping, isTransmitter, onBound}
+use Rattle.centre.specs.Operations.{onOutcome, onPick}
 use Rattle.centre.specs.Centre.{centre, act, octetsEarly, outcomeEarly, pickEarly, earlyOctets, earlyOutcome, earlyPick}
 use Rattle.wellformed.proofs.Cases.{found-cases}
-use Rattle.properties.specs.Property1.{numberOf, wellFormed}
+use Rattle.properties.specs.Property1.{wellFormed}
 use Rattle.properties.proofs.BoundCases.{bound-cases}
 use Rattle.properties.proofs.Refused.{command-zero}
 

@@ -9,20 +9,21 @@ use Rattle.octets.proofs.StretchLaws.{if-cases}
 use Rattle.wire.specs.Frame.{frameOf}
 use Rattle.wire.specs.declared.frame.Frame.{Frame}
 use Rattle.wire.specs.declared.frame.Frame.the-variants.{More, Malformed, Whole}
-use Rattle.store.specs.Book.{bookRecord}
+use Rattle.records.specs.Book.{bookRecord}
 use Rattle.account.specs.Outcome.{reported}
 use Rattle.session.specs.State.{sessionCount, accountCount, entryAt, lastAt, opened, openedFrom, closed}
 use Rattle.session.specs.declared.Entry.{Entry}
 use Rattle.session.specs.declared.Entry.the-variants.{Closed, Open, Transmitter, Receiver, Ended}
 use Rattle.session.specs.declared.Moved.{Moved}
 use Rattle.isolation.specs.Platform.{World, partOf, Step, opens, closes, octets, outcome, picks, Effect, Front, Ran, unchanged, put, putEntry, move, settle, octetsOf, octetsOn, octetsAfter, step}
-use Rattle.centre.specs.Answer.{Octets, Outcome, Answer, numbered}
-use Rattle.centre.specs.Answer as A
-use Rattle.centre.specs.Open.{openBind, openCommand, openFrame, onOpen}
-use Rattle.centre.specs.Bound.{Turn, replying, keeping, isTransmitter, onOutcome}
+use Rattle.answers.specs.Answer.{Octets, Outcome, Answer, numbered, numberOf}
+use Rattle.answers.specs.Answer as A
+use Rattle.open.specs.Open.{openBind, openCommand, openFrame, onOpen}
+use Rattle.bound.specs.Bound.{Turn, replying, keeping, isTransmitter}
+use Rattle.centre.specs.Operations.{onOutcome}
 use Rattle.centre.specs.Centre.{centre, act, earlyOctets}
 use Rattle.wellformed.proofs.Refused.{reported-refused}
-use Rattle.properties.specs.Property1.{numberOf, refusal}
+use Rattle.properties.specs.Property1.{refusal}
 use Rattle.properties.proofs.Back.{entry-back, account-back, pick-back}
 use Rattle.properties.proofs.BoundCases.{bound-cases}
 

@@ -1,7 +1,7 @@
 -- Number 0 comes only where session, buffers, time stamp and stored records are right. Assumes nothing.
 use Prim.Native.Nat.{ℕ, _<_}
 use native.Mathlib.Omega.{arith}
-use mathlib.Core.Path.{_≡_, subst}
+use mathlib.Core.Path.{_≡_, refl, subst}
 use mathlib.Core.Bool.{Bool, true, not, false≢true}
 use mathlib.Core.List.{List}
 use lib.Dec.{leb, ltb, eqb}
@@ -9,16 +9,17 @@ use lib.ListN.{length}
 use borrow.Author.Tests.{leb-false, ltb-true, eqb-true, eqb-false, not-false}
 use Rattle.octets.proofs.StretchLaws.{if-cases}
 use Rattle.store.specs.Account.{accountOk}
-use Rattle.session.specs.State.{sessionCount, accountCount, entryAt, opened, closed}
+use Rattle.session.specs.State.{sessionCount, accountCount, entryAt, openedFrom, opened, closed}
 use Rattle.session.specs.declared.Entry.{Entry}
 use Rattle.session.specs.declared.Entry.the-variants.{Closed, Open, Transmitter, Receiver, Ended}
 use Rattle.session.specs.declared.Moved.{Moved}
 use Rattle.isolation.specs.Platform.{World, Step, opens, closes, octets, outcome, picks, Effect, Ran, octetsOf, octetsOn, step}
 use Rattle.isolation.specs.History.{boundTo}
-use Rattle.centre.specs.Answer.{Octets, Outcome, Answer}
-use Rattle.centre.specs.Bound.{isTransmitter, outcomeOk, onBound, onOutcome, onPick}
+use Rattle.answers.specs.Answer.{Octets, Outcome, Answer, numberOf}
+use Rattle.bound.specs.Bound.{isTransmitter, onBound}
+use Rattle.centre.specs.Operations.{outcomeOk, onOutcome, onPick}
 use Rattle.centre.specs.Centre.{centre, act, earlyOctets, earlyOutcome, earlyPick}
-use Rattle.properties.specs.Property1.{numberOf, wellFormed, Right}
+use Rattle.properties.specs.Property1.{wellFormed, isLive, Right}
 use Rattle.properties.proofs.Early.{early-octets, early-outcome, early-pick}
 
 -- ---- an account asked
@@ -63,10 +64,25 @@ module _ (book : List ℕ) (w : World) where
   octetsOn-right s x (Receiver b) z a t = subst Known (eqb-true b a t) (octetsOf-right s x (Receiver b) b z)
   octetsOn-right s x Ended z a t = absurd (false≢true t)
 
+  octetsOn-live : (s : ℕ) (x : Octets) (e : Entry) → If (isLive e ≡ true) (octetsOn centre book w s x e)
+  octetsOn-live s x Closed z = absurd (omega arith)
+  octetsOn-live s x Open z = refl
+  octetsOn-live s x (Transmitter a) z = refl
+  octetsOn-live s x (Receiver a) z = refl
+  octetsOn-live s x Ended z = absurd (omega arith)
+
+  openedFrom-closed : (s : ℕ) (e : Entry) → openedFrom (w .state) s e .number ≡ 0 → e ≡ Closed
+  openedFrom-closed s Closed z = refl
+  openedFrom-closed s Open z = absurd (omega arith)
+  openedFrom-closed s (Transmitter a) z = absurd (omega arith)
+  openedFrom-closed s (Receiver a) z = absurd (omega arith)
+  openedFrom-closed s Ended z = absurd (omega arith)
+
   pub right : (st : Step Octets Outcome) → If (Right book w st) (step centre book w st)
   unfolding step act opened closed
   right (opens s) =
-      if-cases (λ (r : Moved). r .number ≡ 0 → s < sessionCount) (leb sessionCount s) _ _ (λ _ z. absurd (omega arith)) (λ t _. leb-false sessionCount s t)
+      if-cases (λ (r : Moved). r .number ≡ 0 → Right book w (opens s)) (leb sessionCount s) _ _ (λ _ z. absurd (omega arith))
+      (λ t z. (leb-false sessionCount s t, openedFrom-closed s (entryAt (w .state) s) z))
   right (closes s) =
       if-cases (λ (r : Moved). r .number ≡ 0 → s < sessionCount) (leb sessionCount s) _ _ (λ _ z. absurd (omega arith)) (λ t _. leb-false sessionCount s t)
   right (octets s x) =
@@ -75,7 +91,7 @@ module _ (book : List ℕ) (w : World) where
       if-cases P (leb sessionCount s) _ _ (λ _ z. absurd (omega arith)) λ t.
       if-cases P (eqb early 0) _ _
       (λ u z. let h = early-octets _ _ _ _ (eqb-true early 0 u) in
-      (leb-false sessionCount s t, h .0 .0, h .0 .1, h .1, h .2, octetsOn-right s x (entryAt (w .state) s) z))
+      (leb-false sessionCount s t, octetsOn-live s x (entryAt (w .state) s) z, h .0 .0, h .0 .1, h .1, h .2, octetsOn-right s x (entryAt (w .state) s) z))
       (λ u z. absurd (eqb-false early 0 u z))
   right (outcome a x) =
       let P = If (Right book w (outcome a x)) in

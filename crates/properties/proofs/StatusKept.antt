@@ -9,14 +9,14 @@ use Rattle.octets.specs.Number.{onto, octets4}
 use Rattle.octets.specs.Stretch.{patch}
 use Rattle.octets.proofs.StretchLaws.{if-cases}
 use Rattle.octets.proofs.PatchLaws.{patch-none}
-use Rattle.wire.specs.Reply.{header, reply, over}
-use Rattle.store.specs.Book.{bookRecord}
+use Rattle.answers.specs.Reply.{header, reply, over}
+use Rattle.records.specs.Book.{bookRecord}
 use Rattle.session.specs.State.{sessionCount, accountCount, entryAt, lastAt}
 use Rattle.session.specs.declared.Entry.{Entry}
 use Rattle.session.specs.declared.Entry.the-variants.{Closed, Open, Transmitter, Receiver, Ended}
 use Rattle.isolation.specs.Platform.{World, partSize, partOf, putPart, octets, Effect, Ran, settle, octetsOf, octetsOn, step}
-use Rattle.centre.specs.Answer.{Octets, Answer, repliedTo}
-use Rattle.centre.specs.Bound.{Turn, replying, isTransmitter}
+use Rattle.answers.specs.Answer.{Octets, Answer, repliedTo}
+use Rattle.bound.specs.Bound.{Turn, replying, isTransmitter}
 use Rattle.centre.specs.Centre.{centre, act}
 use Rattle.wellformed.proofs.Refused.{submitted-refused, cancelled-refused, replaced-refused}
 use Rattle.properties.specs.Property1.{writtenOf, statusOf}

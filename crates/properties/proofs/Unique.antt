@@ -8,8 +8,8 @@ use Rattle.session.specs.State.{accountCount}
 use Rattle.session.specs.declared.State.{State}
 use Rattle.session.specs.declared.Moved.{Moved}
 use Rattle.isolation.specs.Platform.{World, fresh, picks, Ran, step}
-use Rattle.centre.specs.Answer.{Answer, picked}
-use Rattle.centre.specs.Centre.{centre, act, moves, takes, reports, pickedNumber, pickedRecord}
+use Rattle.answers.specs.Answer.{Answer, picked, numberOf, pickedRecord}
+use Rattle.centre.specs.Centre.{centre, act, moves, takes, reports}
 use Rattle.centre.specs.declared.take.Taken.{Taken}
 use Rattle.properties.specs.Property2.{Property2, Given}
 use Rattle.properties.proofs.Back.{pick-back}
@@ -44,10 +44,10 @@ one-taken r r′ t t′ space space′ e =
     )
 
 picking : (book : List ℕ) (w : World) (a : ℕ) → (let r = step centre book w (picks a) in
-    r ≡ record { answer = picked (pickedNumber (r .answer)) (pickedRecord (r .answer)); world = w })
+    r ≡ record { answer = picked (numberOf (r .answer)) (pickedRecord (r .answer)); world = w })
 unfolding step act
 picking book w a =
-    let P : Ran Answer → Type 0 = λ r. r ≡ record { answer = picked (pickedNumber (r .answer)) (pickedRecord (r .answer)); world = w } in
+    let P : Ran Answer → Type 0 = λ r. r ≡ record { answer = picked (numberOf (r .answer)) (pickedRecord (r .answer)); world = w } in
     if-cases P _ _ _ (λ _. if-cases P (ltb a accountCount) _ _ (λ _. pick-back _ w a P (λ _. refl) (λ _. refl)) (λ _. refl)) (λ _. refl)
 
 pub property2 : Property2

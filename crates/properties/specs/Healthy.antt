@@ -3,14 +3,14 @@ use Prim.Native.Nat.{ℕ, _<_}
 use mathlib.Core.Path.{_≡_}
 use mathlib.Core.Bool.{true}
 use mathlib.Core.List.{List}
-use Rattle.store.specs.Book.{bookRecord, usedOk}
+use Rattle.records.specs.Book.{bookRecord, usedOk}
 use Rattle.session.specs.State.{accountCount}
 use Rattle.isolation.specs.Platform.{fresh, Step}
 use Rattle.isolation.specs.Platform as P
 use Rattle.isolation.specs.History.{after}
-use Rattle.centre.specs.Answer.{Octets, Outcome}
+use Rattle.answers.specs.Answer.{Octets, Outcome, numberOf}
 use Rattle.centre.specs.Centre.{centre, step}
-use Rattle.properties.specs.Property1.{numberOf, wellFormed}
+use Rattle.properties.specs.Property1.{wellFormed}
 
 pub record Healthy : Type 0 where
   pub stays : (book : List ℕ) (hs : List (Step Octets Outcome)) (a : ℕ) → a < accountCount → usedOk (bookRecord a book) ≡ true

@@ -1,9 +1,9 @@
 -- The longest reply is 44 octets, whatever is sent in whatever state.
 use Prim.Native.Nat.{ℕ, _≤_}
 use mathlib.Core.List.{List}
-use Rattle.wire.specs.Reply.{spaceNeeded}
+use Rattle.answers.specs.Reply.{spaceNeeded}
 use Rattle.isolation.specs.Platform.{World, octets}
-use Rattle.centre.specs.Answer.{Octets}
+use Rattle.answers.specs.Answer.{Octets}
 use Rattle.centre.specs.Centre.{step}
 use Rattle.properties.specs.Property1.{writtenOf}
 

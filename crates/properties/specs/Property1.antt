@@ -12,19 +12,16 @@ use lib.ListN.{length}
 use Rattle.octets.specs.Stretch.{part}
 use Rattle.octets.specs.Number.{number}
 use Rattle.forms.specs.Time.{sentTime}
-use Rattle.wire.specs.Reply.{spaceNeeded}
-use Rattle.store.specs.Book.{bookSize, bookRecord}
+use Rattle.answers.specs.Reply.{spaceNeeded}
+use Rattle.records.specs.Book.{bookSize, bookRecord}
 use Rattle.store.specs.Account.{accountOk}
 use Rattle.session.specs.State.{sessionCount, accountCount, entryAt, lastAt}
+use Rattle.session.specs.declared.Entry.{Entry}
+use Rattle.session.specs.declared.Entry.the-variants.{Closed, Open, Transmitter, Receiver, Ended}
 use Rattle.isolation.specs.History.{boundTo}
 use Rattle.isolation.specs.Platform.{tableSize, partOf, World, Step, opens, closes, octets, outcome, picks, unchanged}
-use Rattle.centre.specs.Answer.{Octets, Outcome, Answer, numbered, taken, picked, refusedOctets, refusedPick}
+use Rattle.answers.specs.Answer.{Octets, Outcome, Answer, numbered, taken, picked, refusedOctets, refusedPick, numberOf}
 use Rattle.centre.specs.Centre.{centre, step}
-
-abbrev pub numberOf : Answer → ℕ
-numberOf (numbered n) = n
-numberOf (taken n consumed written space) = n
-numberOf (picked n r) = n
 
 -- a step's refusal: that number alone; of octets, with nothing consumed or written and the space as it was lent; of a pick, with no record
 abbrev pub refusal : Step Octets Outcome → ℕ → Answer
@@ -61,12 +58,21 @@ among n (k ∷ ks) = eqb n k || among n ks
 abbrev pub wellFormed : List ℕ → World → ℕ → Type 0
 wellFormed book w a = accountOk (bookRecord a book) (lastAt (w .state) a) (partOf a (w .table)) ≡ true
 
+-- a session that octets can come on
+abbrev pub isLive : Entry → Bool
+isLive Closed = false
+isLive Open = true
+isLive (Transmitter a) = true
+isLive (Receiver a) = true
+isLive Ended = false
+
 -- session, buffers, time stamp and stored records of a step are right; of octets the records are those of the account that the session is bound to
 abbrev pub Right : List ℕ → World → Step Octets Outcome → Type 0
-Right book w (opens s) = s < sessionCount
+Right book w (opens s) = (s < sessionCount) × (entryAt (w .state) s ≡ Closed)
 Right book w (closes s) = s < sessionCount
 Right book w (octets s x) =
-    (s < sessionCount) × (length book ≡ bookSize) × (length (w .table) ≡ tableSize) × (spaceNeeded ≤ length (x .space)) × (sentTime (x .stamp) ≡ true)
+    (s < sessionCount) × (isLive (entryAt (w .state) s) ≡ true)
+    × (length book ≡ bookSize) × (length (w .table) ≡ tableSize) × (spaceNeeded ≤ length (x .space)) × (sentTime (x .stamp) ≡ true)
     × ((a : ℕ) → boundTo a (entryAt (w .state) s) ≡ true → (a < accountCount) × wellFormed book w a)
 Right book w (outcome a x) =
     (length book ≡ bookSize) × (length (w .table) ≡ tableSize) × (sentTime (x .stamp) ≡ true) × (a < accountCount) × wellFormed book w a

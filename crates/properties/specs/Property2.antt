@@ -11,8 +11,8 @@ use Rattle.session.specs.State as S
 use Rattle.session.specs.declared.State.{State}
 use Rattle.session.specs.declared.Moved.{Moved}
 use Rattle.isolation.specs.Platform.{tableSize, World, fresh, opens, closes, picks, Ran}
-use Rattle.centre.specs.Answer.{Answer, picked}
-use Rattle.centre.specs.Centre.{step, world, moves, takes, reports, pickedNumber, pickedRecord}
+use Rattle.answers.specs.Answer.{Answer, picked, numberOf, pickedRecord}
+use Rattle.centre.specs.Centre.{step, world, moves, takes, reports}
 use Rattle.centre.specs.declared.take.Taken.{Taken}
 
 pub record Property2 : Type 0 where
@@ -22,7 +22,7 @@ pub record Property2 : Type 0 where
   pub closing : (book : List ℕ) (state : State) (table : List ℕ) (s : ℕ) → moves (closed state s) table ≡ step book (world state table) (closes s)
   -- a pick changes nothing, and its number and its record are its whole answer
   pub picking : (book : List ℕ) (w : World) (a : ℕ) → (let r = step book w (picks a) in
-      r ≡ record { answer = picked (pickedNumber (r .answer)) (pickedRecord (r .answer)); world = w })
+      r ≡ record { answer = picked (numberOf (r .answer)) (pickedRecord (r .answer)); world = w })
   -- one result only: of a move, of taken octets, of an outcome
   pub moved : (d : Ran Answer) (r r′ : Moved) (t t′ : List ℕ) → moves r t ≡ d → moves r′ t′ ≡ d → (r ≡ r′) × (t ≡ t′)
   pub taken : (d : Ran Answer) (r r′ : Taken) (t t′ space space′ : List ℕ) → takes r t space ≡ d → takes r′ t′ space′ ≡ d

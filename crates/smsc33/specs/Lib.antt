@@ -1,3 +1,1 @@
-pub mod Record
-pub mod Line
 pub mod Turn

@@ -4,15 +4,15 @@ use mathlib.Core.Path.{_≡_}
 use mathlib.Core.Bool.{Bool, true, false}
 use mathlib.Core.List.{List, []}
 use lib.ListN.{length, take, replicate}
-use Rattle.wire.specs.Reply.{spaceNeeded}
+use Rattle.answers.specs.Reply.{spaceNeeded}
 use Rattle.isolation.specs.Platform.{World, Step, Ran}
-use Rattle.centre.specs.Answer.{Answer}
-use Rattle.centre.specs.Answer as A
+use Rattle.answers.specs.Answer.{Answer}
+use Rattle.answers.specs.Answer as A
 use Rattle.centre.specs.Centre.{step, world}
-use Rattle.smsc33.specs.Record.{sessionOf, stampOf, payloadOf, accountOf, outcomeOf, orderOf}
-use Rattle.smsc33.specs.Line.{line, badRecord}
-use Rattle.smsc33.specs.declared.record.Order.{Order}
-use Rattle.smsc33.specs.declared.record.Order.the-variants.{Open, Octets, Close, Outcome, Bad}
+use Rattle.lines.specs.Record.{sessionOf, stampOf, payloadOf, accountOf, outcomeOf, orderOf}
+use Rattle.lines.specs.Line.{line, badRecord}
+use Rattle.lines.specs.declared.record.Order.{Order}
+use Rattle.lines.specs.declared.record.Order.the-variants.{Open, Octets, Close, Outcome, Bad}
 use Rattle.smsc33.specs.declared.turn.Turned.{Turned}
 
 -- what is printed, the world afterwards, and whether the next record is read

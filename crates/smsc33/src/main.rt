@@ -1,6 +1,4 @@
 // The printing program: reads the account book from accounts.bin and records of 544 octets from standard input, and prints a line for each.
-mod record;
-mod text;
 mod turn;
 
 use session::State;

@@ -1,7 +1,7 @@
 // One record taken: what the centre makes of it, and the line that tells it.
-use crate::record;
-use crate::record::Order;
-use crate::text;
+use lines::record;
+use lines::record::Order;
+use lines::text;
 use session::State;
 ghost use mathlib.Core.Path.{_≡_};
 ghost use Prim.Native.Nat.{ℕ, _≤_};
@@ -9,8 +9,8 @@ ghost use mathlib.Core.List.{List};
 ghost use lib.ListN.{length, getD};
 ghost use Rattle.isolation.specs.Platform.{Step};
 ghost use Rattle.centre.specs.Centre.{step, world};
-ghost use Rattle.smsc33.specs.Line.{lineRoom};
-ghost use Rattle.smsc33.specs.Record.{recordSize, stampOf, outcomeOf, accountOf};
+ghost use Rattle.lines.specs.Line.{lineRoom};
+ghost use Rattle.lines.specs.Record.{recordSize, stampOf, outcomeOf, accountOf};
 ghost use Rattle.smsc33.specs.Turn.{turned, answered, stopped, turnOf, zeroSpace, Fits};
 
 // The line is the first `length` octets of the text.

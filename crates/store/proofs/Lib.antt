@@ -1,3 +1,1 @@
-pub mod RecordLaws
 pub mod PlacesLaws
-pub mod ChangeLaws

@@ -13,7 +13,7 @@ use Rattle.octets.specs.Rows.{rows, rowsFrom}
 use Rattle.octets.proofs.StretchLaws.{and-assoc, and-true, if-cases, part-length}
 use Rattle.octets.proofs.RowsLaws.{rows-length, rows-more, rows-end}
 use Rattle.octets.proofs.PatchLaws.{part-back}
-use Rattle.store.specs.Layout.{recordSize, places, partSize, idOf}
+use Rattle.records.specs.Layout.{recordSize, places, partSize, idOf}
 use Rattle.store.specs.Places.{records, recordAt, Below, over, none, keep, foundOf, lowest, onPlace, onPlaces}
 use Rattle.store.specs.Search.{isEmpty}
 use Rattle.store.specs.Account.{otherId, apart}

@@ -4,9 +4,9 @@ use mathlib.Core.Bool.{Bool, true, not, _&&_, _||_}
 use mathlib.Core.List.{List, [], _∷_}
 use lib.Dec.{eqb}
 use Rattle.octets.specs.Stretch.{every}
-use Rattle.store.specs.Layout.{idOf}
-use Rattle.store.specs.Record.{recordOk}
-use Rattle.store.specs.Book.{usedOk}
+use Rattle.records.specs.Layout.{idOf}
+use Rattle.records.specs.Record.{recordOk}
+use Rattle.records.specs.Book.{usedOk}
 use Rattle.store.specs.Places.{records}
 use Rattle.store.specs.Search.{isEmpty}
 

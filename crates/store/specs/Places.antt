@@ -6,7 +6,7 @@ use lib.Dec.{ltb}
 use Rattle.octets.specs.Choice.{if_then_else_}
 use Rattle.octets.specs.Stretch.{part, patch}
 use Rattle.octets.specs.Rows.{rows}
-use Rattle.store.specs.Layout.{recordSize, places}
+use Rattle.records.specs.Layout.{recordSize, places}
 use Rattle.store.specs.declared.places.Found.{Found}
 use Rattle.store.specs.declared.places.Found.the-variants.{At, Nowhere}
 use Rattle.store.specs.declared.places.Best.{Best}
@@ -25,6 +25,11 @@ Below n Nowhere = Unit
 
 abbrev pub OnePlace : Found → Type 0
 OnePlace found = Below places found
+
+-- what is done with a place, or where there is none
+abbrev pub onFound : {A : Type 0} → Found → (ℕ → A) → A → A
+onFound (At k) here nowhere = here k
+onFound Nowhere here nowhere = nowhere
 
 -- all of them in order, with the place of each, the first being at k
 unfoldable pub over : {A B : Type 0} → (B → ℕ → A → B) → B → ℕ → List A → B

@@ -5,9 +5,9 @@ use mathlib.Core.List.{List}
 use lib.Dec.{eqb}
 use Rattle.octets.specs.Choice.{if_then_else_}
 use Rattle.forms.specs.Class.{within}
-use Rattle.store.specs.Layout.{stateOf, idOf, sourceOf, destinationOf, priorityOf}
+use Rattle.records.specs.Layout.{stateOf, idOf, sourceOf, destinationOf, priorityOf}
 use Rattle.octets.specs.Rows.{rows}
-use Rattle.store.specs.Book.{bookRecordSize, sameAddress, named}
+use Rattle.records.specs.Book.{bookRecordSize, sameAddress, named}
 use Rattle.store.specs.Places.{records, lowest}
 use Rattle.store.specs.declared.places.Found.{Found}
 use Rattle.store.specs.declared.places.Found.the-variants.{At, Nowhere}

@@ -1,15 +1,15 @@
 // The test of one account. A call makes it once.
-use crate::book;
 use crate::places;
-use crate::record;
+use records::book;
+use records::record;
 ghost use mathlib.Core.Path.{_≡_};
 ghost use Prim.Native.Nat.{_<_, _≤_, _+_};
 ghost use lib.ListN.{length};
 ghost use Rattle.octets.specs.Stretch.{every};
 ghost use Rattle.octets.specs.Rows.{rowsFrom};
-ghost use Rattle.store.specs.Layout.{recordSize, places, partSize, idOf};
-ghost use Rattle.store.specs.Record.{recordOk};
-ghost use Rattle.store.specs.Book.{bookRecordSize};
+ghost use Rattle.records.specs.Layout.{recordSize, places, partSize, idOf};
+ghost use Rattle.records.specs.Record.{recordOk};
+ghost use Rattle.records.specs.Book.{bookRecordSize};
 ghost use Rattle.store.specs.Places.{records, recordAt};
 ghost use Rattle.store.specs.Account.{otherId, apart, accountOk};
 ghost use Rattle.store.specs.Search.{isEmpty};

@@ -1,7 +1,4 @@
-// What is stored: the account book's record, the 256-octet message record, and the sixteen places of one account.
+// The sixteen places of one account: what is searched for among them, and whether the account is well formed.
 pub mod account;
-pub mod book;
-pub mod change;
 pub mod places;
-pub mod record;
 pub mod search;

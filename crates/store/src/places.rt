@@ -2,7 +2,7 @@
 ghost use mathlib.Core.Path.{_≡_};
 ghost use Prim.Native.Nat.{_<_};
 ghost use lib.ListN.{length};
-ghost use Rattle.store.specs.Layout.{recordSize, places, partSize, idOf};
+ghost use Rattle.records.specs.Layout.{recordSize, places, partSize, idOf};
 ghost use Rattle.store.specs.Search.{waiting};
 ghost use Rattle.store.specs.Places.{recordAt, none, foundOf};
 

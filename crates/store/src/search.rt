@@ -1,15 +1,15 @@
 // The searches over the sixteen places. They compare in the part and copy no record out.
-use crate::book;
 use crate::places;
 use crate::places::Best;
 use crate::places::Found;
+use records::book;
 ghost use mathlib.Core.Path.{_≡_};
 ghost use mathlib.Core.Bool.{_&&_};
 ghost use Prim.Native.Nat.{_<_};
 ghost use lib.ListN.{length};
-ghost use Rattle.store.specs.Layout.{recordSize, places, partSize};
+ghost use Rattle.records.specs.Layout.{recordSize, places, partSize};
 ghost use Rattle.store.specs.Places.{records, recordAt, Below, OnePlace, keep, lowest};
-ghost use Rattle.store.specs.Book.{bookRecordSize, bookSize, named};
+ghost use Rattle.records.specs.Book.{bookRecordSize, bookSize, named};
 ghost use Rattle.store.specs.Search.{waiting, between, turn, placeOf, pairPlace, emptyPlace, finishedPlace, newPlace, nextPlace, namedPlace, passes, rankOf};
 
 // What a record must be, to be looked at: of an id; waiting between two addresses; empty; finished; waiting.

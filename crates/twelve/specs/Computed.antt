@@ -10,7 +10,7 @@ use Rattle.forms.specs.Time.{twoDigits, isTime, sentTime, storedTime}
 use Rattle.wire.specs.Cursor.{notBoth, endOf}
 use Rattle.wire.specs.Fields.{octetAt, textAt, addressAt, idAt, timeAt, spanAt, shortAt}
 use Rattle.wire.specs.Frame.{frameOf, headerOf}
-use Rattle.wire.specs.Reply.{header, reply, idText, queryBody, over}
+use Rattle.answers.specs.Reply.{header, reply, idText, queryBody, over}
 use Rattle.requests.specs.Bind.{bindOf}
 use Rattle.requests.specs.Submit.{submitOf}
 use Rattle.requests.specs.Query.{queryOf}
@@ -18,11 +18,11 @@ use Rattle.requests.specs.Cancel.{cancelOf}
 use Rattle.requests.specs.Replace.{replaceOf}
 use Rattle.requests.specs.Plain.{plainOf}
 use Rattle.store.specs.Account.{apart, placesOk, accountOk}
-use Rattle.store.specs.Book.{bookOk, usedOk, sameName, sameAddress, named, passwordIs}
-use Rattle.store.specs.Change.{newRecord, finished, retexted, corrected}
+use Rattle.records.specs.Book.{bookOk, usedOk, sameName, sameAddress, named, passwordIs}
+use Rattle.changes.specs.Change.{newRecord, finished, retexted, corrected}
 use Rattle.store.specs.Places as Places
 use Rattle.store.specs.Places.{keep, lowest, onPlaces}
-use Rattle.store.specs.Record.{textOk, fieldsOk, endOk, messageOk, recordOk}
+use Rattle.records.specs.Record.{textOk, fieldsOk, endOk, messageOk, recordOk}
 use Rattle.store.specs.Search.{orElse}
 use Rattle.account.specs.Source.{sourceFor, known}
 use Rattle.account.specs.Submit.{added, stored, submitted}
@@ -32,8 +32,9 @@ use Rattle.account.specs.Replace.{replacedIn, replaced}
 use Rattle.account.specs.Outcome.{reported}
 use Rattle.session.specs.State.{opened, closed}
 use Rattle.isolation.specs.Platform.{fresh, step}
-use Rattle.centre.specs.Open.{bindTo, openBind, openCommand, onOpen}
-use Rattle.centre.specs.Bound.{submitTurn, queryTurn, cancelTurn, replaceTurn, unbindTurn, replying, boundCommand, onBound, onOutcome, onPick}
+use Rattle.open.specs.Open.{bindTo, openBind, openCommand, onOpen}
+use Rattle.bound.specs.Bound.{submitTurn, queryTurn, cancelTurn, replaceTurn, unbindTurn, replying, boundCommand, onBound}
+use Rattle.centre.specs.Operations.{onOutcome, onPick}
 use Rattle.centre.specs.Centre.{octetsEarly, outcomeEarly, pickEarly, act}
 
 unfoldable pub computed : Unit {0}

@@ -10,15 +10,15 @@ use Rattle.forms.specs.declared.text.MessageId.the-variants.{Number}
 use Rattle.wire.specs.Cursor.{start}
 use Rattle.wire.specs.Fields.{idAt}
 use Rattle.wire.specs.declared.fields.IdRead.{IdRead}
-use Rattle.store.specs.Layout.{recordSize}
+use Rattle.records.specs.Layout.{recordSize}
 use Rattle.session.specs.State.{closedSession}
 use Rattle.session.specs.declared.Entry.{Entry}
 use Rattle.session.specs.declared.Entry.the-variants.{Open, Transmitter, Ended}
 use Rattle.session.specs.declared.State.{State}
 use Rattle.isolation.specs.Platform.{World, Step, Ran, opens, fresh}
 use Rattle.isolation.specs.History.{after}
-use Rattle.centre.specs.Answer.{Octets, Outcome, Answer}
-use Rattle.centre.specs.Answer as A
+use Rattle.answers.specs.Answer.{Octets, Outcome, Answer}
+use Rattle.answers.specs.Answer as A
 use Rattle.centre.specs.Centre.{centre, step}
 use Rattle.twelve.specs.Computed.{computed}
 use Rattle.twelve.specs.Requests.{words, ended, paging, secret, vma, plant, noAccounts, twoAccounts, pdu, bind, submission, query, sends}
@@ -121,43 +121,43 @@ examples =
     -- length 15
     ∷ row P2
     (taking noAccounts opened (sends 0 (words (15 ∷ 0x15 ∷ 0 ∷ 1 ∷ [])))
-    (gives (answers 0 4 16 (words (0x00000010 ∷ 0x80000000 ∷ 0x00000002 ∷ 0x00000000 ∷ []))) Ended))
+    (gives (answers 0 4 16 (0x00 ∷ 0x00 ∷ 0x00 ∷ 0x10 ∷ 0x80 ∷ 0x00 ∷ 0x00 ∷ 0x00 ∷ 0x00 ∷ 0x00 ∷ 0x00 ∷ 0x02 ∷ 0x00 ∷ 0x00 ∷ 0x00 ∷ 0x00 ∷ [])) Ended))
     -- length 512 with 16 octets present: 1
     ∷ row P3 (taking noAccounts opened (sends 0 (words (512 ∷ 0x15 ∷ 0 ∷ 1 ∷ []))) (gives (answers 1 0 0 []) Open))
     -- length 513: as P2
     ∷ row P4
     (taking noAccounts opened (sends 0 (words (513 ∷ 0x15 ∷ 0 ∷ 1 ∷ [])))
-    (gives (answers 0 4 16 (words (0x00000010 ∷ 0x80000000 ∷ 0x00000002 ∷ 0x00000000 ∷ []))) Ended))
+    (gives (answers 0 4 16 (0x00 ∷ 0x00 ∷ 0x00 ∷ 0x10 ∷ 0x80 ∷ 0x00 ∷ 0x00 ∷ 0x00 ∷ 0x00 ∷ 0x00 ∷ 0x00 ∷ 0x02 ∷ 0x00 ∷ 0x00 ∷ 0x00 ∷ 0x00 ∷ [])) Ended))
     -- enquire_link, sequence 7
     ∷ row P5
     (taking noAccounts opened (sends 0 (pdu 0x15 7 []))
-    (gives (answers 0 16 16 (words (0x00000010 ∷ 0x80000015 ∷ 0x00000000 ∷ 0x00000007 ∷ []))) Open))
+    (gives (answers 0 16 16 (0x00 ∷ 0x00 ∷ 0x00 ∷ 0x10 ∷ 0x80 ∷ 0x00 ∷ 0x00 ∷ 0x15 ∷ 0x00 ∷ 0x00 ∷ 0x00 ∷ 0x00 ∷ 0x00 ∷ 0x00 ∷ 0x00 ∷ 0x07 ∷ [])) Open))
     -- id 9, sequence 5
     ∷ row P6
     (taking noAccounts opened (sends 0 (pdu 9 5 []))
-    (gives (answers 0 16 16 (words (0x00000010 ∷ 0x80000000 ∷ 0x00000003 ∷ 0x00000005 ∷ []))) Open))
+    (gives (answers 0 16 16 (0x00 ∷ 0x00 ∷ 0x00 ∷ 0x10 ∷ 0x80 ∷ 0x00 ∷ 0x00 ∷ 0x00 ∷ 0x00 ∷ 0x00 ∷ 0x00 ∷ 0x03 ∷ 0x00 ∷ 0x00 ∷ 0x00 ∷ 0x05 ∷ [])) Open))
     -- submit when unbound, sequence 2
     ∷ row P7
     (taking twoAccounts openedWith (sends 0 (pdu 4 2 submission))
-    (gives (answers 0 50 17 (words (0x00000011 ∷ 0x80000004 ∷ 0x00000004 ∷ 0x00000002 ∷ []) ++ (0x00 ∷ []))) Open))
+    (gives (answers 0 50 17 (0x00 ∷ 0x00 ∷ 0x00 ∷ 0x11 ∷ 0x80 ∷ 0x00 ∷ 0x00 ∷ 0x04 ∷ 0x00 ∷ 0x00 ∷ 0x00 ∷ 0x04 ∷ 0x00 ∷ 0x00 ∷ 0x00 ∷ 0x02 ∷ 0x00 ∷ [])) Open))
     -- first accepted submit, sequence 3: stored, waiting, with id 1
     ∷ row P8
     (taking twoAccounts bound (sends 0 (pdu 4 3 submission))
     (record {
-      answer = answers 0 50 25 (words (0x00000019 ∷ 0x80000004 ∷ 0x00000000 ∷ 0x00000003 ∷ 0x30303030 ∷ 0x30303031 ∷ []) ++ (0x00 ∷ []));
+      answer = answers 0 50 25 (0x00 ∷ 0x00 ∷ 0x00 ∷ 0x19 ∷ 0x80 ∷ 0x00 ∷ 0x00 ∷ 0x04 ∷ 0x00 ∷ 0x00 ∷ 0x00 ∷ 0x00 ∷ 0x00 ∷ 0x00 ∷ 0x00 ∷ 0x03 ∷ 0x30 ∷ 0x30 ∷ 0x30 ∷ 0x30 ∷ 0x30 ∷ 0x30 ∷ 0x30 ∷ 0x31 ∷ 0x00 ∷ []);
       state = stateWith (Transmitter 0) 1;
       held = record { place = 0; octets = 1 ∷ 0 ∷ 0 ∷ 0 ∷ 1 ∷ [] } ∷ [];
     }))
     -- query of an unknown id, sequence 4
     ∷ row P9
     (taking twoAccounts bound (sends 0 (pdu 3 4 query))
-    (gives (answers 0 21 20 (words (0x00000014 ∷ 0x80000003 ∷ 0x0000000C ∷ 0x00000004 ∷ 0x00000000 ∷ []))) (Transmitter 0)))
+    (gives (answers 0 21 20 (0x00 ∷ 0x00 ∷ 0x00 ∷ 0x14 ∷ 0x80 ∷ 0x00 ∷ 0x00 ∷ 0x03 ∷ 0x00 ∷ 0x00 ∷ 0x00 ∷ 0x0C ∷ 0x00 ∷ 0x00 ∷ 0x00 ∷ 0x04 ∷ 0x00 ∷ 0x00 ∷ 0x00 ∷ 0x00 ∷ [])) (Transmitter 0)))
     -- id text "  1a" is 26
     ∷ row P10 (reading (ended (32 ∷ 32 ∷ 49 ∷ 97 ∷ [])) (record { value = Number 26; next = record { at = 5; status = 0 } }))
     -- transmitter bind, wrong password, sequence 1
     ∷ row P11
     (taking twoAccounts openedWith (sends 0 (pdu 2 1 (bind paging plant vma)))
-    (gives (answers 0 37 23 (words (0x00000017 ∷ 0x80000002 ∷ 0x0000000D ∷ 0x00000001 ∷ 0x534D5343 ∷ []) ++ (0x33 ∷ 0x33 ∷ 0x00 ∷ []))) Open))
+    (gives (answers 0 37 23 (0x00 ∷ 0x00 ∷ 0x00 ∷ 0x17 ∷ 0x80 ∷ 0x00 ∷ 0x00 ∷ 0x02 ∷ 0x00 ∷ 0x00 ∷ 0x00 ∷ 0x0D ∷ 0x00 ∷ 0x00 ∷ 0x00 ∷ 0x01 ∷ 0x53 ∷ 0x4D ∷ 0x53 ∷ 0x43 ∷ 0x33 ∷ 0x33 ∷ 0x00 ∷ [])) Open))
     -- command 0x80000015: no reply
     ∷ row P12 (taking noAccounts opened (sends 0 (pdu 0x80000015 7 [])) (gives (answers 0 16 0 []) Open))
     ∷ []

@@ -5,9 +5,9 @@ use lib.ListN.{length, replicate}
 use Rattle.octets.specs.Number.{octets4}
 use Rattle.octets.specs.Stretch.{padded}
 use Rattle.isolation.specs.Platform.{Step, octets}
-use Rattle.centre.specs.Answer.{Octets, Outcome}
+use Rattle.answers.specs.Answer.{Octets, Outcome}
 
--- numbers of four octets, as document 01 prints them
+-- numbers of four octets: of the requests alone, what is to come of them stands octet by octet
 abbrev pub words : List ℕ → List ℕ
 words [] = []
 words (n ∷ ns) = octets4 n ++ words ns

@@ -9,11 +9,11 @@ use Rattle.store.specs.Places.{recordAt}
 use Rattle.session.specs.State.{lastAt}
 use Rattle.isolation.specs.Platform.{World, Step, opens, outcome, picks, partOf}
 use Rattle.isolation.specs.History.{after}
-use Rattle.centre.specs.Answer.{Octets, Outcome}
-use Rattle.centre.specs.Answer as A
+use Rattle.answers.specs.Answer.{Octets, Outcome}
+use Rattle.answers.specs.Answer as A
 use Rattle.centre.specs.Centre.{centre, step}
 use Rattle.twelve.specs.Computed.{computed}
-use Rattle.twelve.specs.Requests.{words, plant, other, office, mobile, hello, stamp, twoAccounts, pdu, bind, submission, query, sends}
+use Rattle.twelve.specs.Requests.{plant, other, office, mobile, hello, stamp, twoAccounts, pdu, bind, submission, query, sends}
 use Rattle.twelve.specs.Examples.{held, bound, answers}
 
 -- a submission with this sequence, on a session
@@ -61,7 +61,7 @@ both-last = refl
 -- the second reply, with id 2
 pub second-reply :
     step twoAccounts stored (submits 0 4) .answer
-    ≡ answers 0 50 25 (words (0x00000019 ∷ 0x80000004 ∷ 0x00000000 ∷ 0x00000004 ∷ 0x30303030 ∷ 0x30303032 ∷ []) ++ (0x00 ∷ []))
+    ≡ answers 0 50 25 (0x00 ∷ 0x00 ∷ 0x00 ∷ 0x19 ∷ 0x80 ∷ 0x00 ∷ 0x00 ∷ 0x04 ∷ 0x00 ∷ 0x00 ∷ 0x00 ∷ 0x00 ∷ 0x00 ∷ 0x00 ∷ 0x00 ∷ 0x04 ∷ 0x30 ∷ 0x30 ∷ 0x30 ∷ 0x30 ∷ 0x30 ∷ 0x30 ∷ 0x30 ∷ 0x32 ∷ 0x00 ∷ [])
 unfolding computed
 second-reply = refl
 
@@ -90,7 +90,7 @@ delivered = step twoAccounts stored (outcome 0 (record { stamp = stamp; id = 1; 
 pub longest-reply :
     step twoAccounts delivered (sends 0 (pdu 3 5 query)) .answer
     ≡ answers 0 21 44
-    (words (0x0000002C ∷ 0x80000003 ∷ 0x00000000 ∷ 0x00000005 ∷ 0x30303030 ∷ 0x30303031 ∷ []) ++ ((0x00 ∷ stamp) ++ (0x00 ∷ 1 ∷ 7 ∷ [])))
+    ((0x00 ∷ 0x00 ∷ 0x00 ∷ 0x2C ∷ 0x80 ∷ 0x00 ∷ 0x00 ∷ 0x03 ∷ 0x00 ∷ 0x00 ∷ 0x00 ∷ 0x00 ∷ 0x00 ∷ 0x00 ∷ 0x00 ∷ 0x05 ∷ 0x30 ∷ 0x30 ∷ 0x30 ∷ 0x30 ∷ 0x30 ∷ 0x30 ∷ 0x30 ∷ 0x31 ∷ 0x00 ∷ []) ++ (stamp ++ (0x00 ∷ 1 ∷ 7 ∷ [])))
 unfolding computed
 longest-reply = refl
 
@@ -102,7 +102,7 @@ spoilt = record { state = bound .state; table = replicate 4096 0 ++ (1 ∷ repli
 
 pub neighbour-spoilt :
     step twoAccounts spoilt (sends 0 (pdu 0x15 7 [])) .answer
-    ≡ answers 0 16 16 (words (0x00000010 ∷ 0x80000015 ∷ 0x00000000 ∷ 0x00000007 ∷ []))
+    ≡ answers 0 16 16 (0x00 ∷ 0x00 ∷ 0x00 ∷ 0x10 ∷ 0x80 ∷ 0x00 ∷ 0x00 ∷ 0x15 ∷ 0x00 ∷ 0x00 ∷ 0x00 ∷ 0x00 ∷ 0x00 ∷ 0x00 ∷ 0x00 ∷ 0x07 ∷ [])
 unfolding computed
 neighbour-spoilt = refl
 

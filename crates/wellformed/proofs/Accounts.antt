@@ -15,11 +15,11 @@ use Rattle.forms.proofs.ClassLaws.{within-low}
 use Rattle.forms.specs.declared.text.MessageId.{MessageId}
 use Rattle.forms.specs.declared.text.MessageId.the-variants.{Empty, Number}
 use Rattle.wire.specs.Fields.{octetsOf}
-use Rattle.store.specs.Layout.{recordSize, places, partSize, stateOf, idOf, sourceOf, destinationOf}
-use Rattle.store.specs.Book.{bookRecordSize, sameAddress}
+use Rattle.records.specs.Layout.{recordSize, places, partSize, stateOf, idOf, sourceOf, destinationOf}
+use Rattle.records.specs.Book.{bookRecordSize, sameAddress}
 use Rattle.store.specs.Places.{recordAt, onPlace, onPlaces}
 use Rattle.store.specs.Search.{waiting, between, overwritable, isEmpty, hasId, pairPlace, emptyPlace, finishedPlace, orElse, newPlace}
-use Rattle.store.specs.Change.{finished, retexted, corrected}
+use Rattle.changes.specs.Change.{finished, retexted, corrected}
 use Rattle.store.specs.Account.{accountOk}
 use Rattle.store.specs.declared.places.Found.{Found}
 use Rattle.store.specs.declared.places.Found.the-variants.{At, Nowhere}

@@ -13,13 +13,13 @@ use Rattle.forms.specs.declared.text.MessageId.the-variants.{Empty, Number}
 use Rattle.requests.specs.Submit.{submitOf}
 use Rattle.requests.specs.Cancel.{cancelOf}
 use Rattle.requests.specs.Replace.{replaceOf}
-use Rattle.store.specs.Layout.{places, sourceOf}
-use Rattle.store.specs.Book.{sameAddress}
-use Rattle.store.specs.Places.{recordAt, onPlaces}
+use Rattle.records.specs.Layout.{places, sourceOf}
+use Rattle.records.specs.Book.{sameAddress}
+use Rattle.store.specs.Places.{recordAt, onPlaces, onFound}
 use Rattle.store.specs.Search.{waiting, placeOf, pairPlace, newPlace}
 use Rattle.store.specs.declared.places.Found.{Found}
 use Rattle.store.specs.declared.places.Found.the-variants.{At, Nowhere}
-use Rattle.account.specs.Source.{noAddress, known, onFound}
+use Rattle.account.specs.Source.{noAddress, known}
 use Rattle.account.specs.Submit.{Submitted, refused, submitted, stored, added, toReplace}
 use Rattle.account.specs.Cancel.{Changed, changed, deletedIf, cancellable, cancelledBy, cancelledOne, cancelledAll, cancelled}
 use Rattle.account.specs.Replace.{replaced, replacedIn}

@@ -14,14 +14,15 @@ use Rattle.octets.proofs.PatchLaws.{patch-length, part-patch, part-before, part
 use Rattle.forms.specs.Field.{isField}
 use Rattle.forms.specs.Time.{sentTime, storedTime}
 use Rattle.forms.specs.declared.text.Form.the-variants.{Ascii}
-use Rattle.store.specs.Layout.{recordSize, stateOf, idOf, scheduleOf, validityOf, registeredOf, defaultOf, lengthOf, textFieldOf, dateOf, errorOf}
-use Rattle.store.specs.Record.{addressOk, timeOk}
-use Rattle.store.specs.Change.{finished, retexted, retimed, corrected}
-use Rattle.store.specs.declared.change.Correction.{Correction}
+use Rattle.forms.proofs.TimeLaws.{sent-length}
+use Rattle.records.specs.Layout.{recordSize, stateOf, idOf, scheduleOf, validityOf, registeredOf, defaultOf, lengthOf, textFieldOf, dateOf, errorOf}
+use Rattle.records.specs.Record.{addressOk, timeOk}
+use Rattle.changes.specs.Change.{finished, retexted, retimed, corrected}
+use Rattle.changes.specs.declared.Correction.{Correction}
 use Rattle.wellformed.specs.Rules.{Timed}
 use Rattle.wellformed.specs.Good.{GoodWords, Good}
 use Rattle.wellformed.proofs.GoodIs.{or-one, or-second}
-use Rattle.wellformed.proofs.TextFields.{padded-length, every-replicate, sent-stored, sent-length}
+use Rattle.wellformed.proofs.TextFields.{padded-length, every-replicate, sent-stored}
 
 -- ---- equal stretches have equal parts and octets
 

@@ -9,10 +9,10 @@ use lib.ListN.{length}
 use Rattle.octets.proofs.StretchLaws.{if-true, if-false}
 use Rattle.forms.specs.declared.text.MessageId.the-variants.{Empty, Number}
 use Rattle.wire.specs.Fields.{octetsOf}
-use Rattle.store.specs.Layout.{recordSize, places, partSize}
+use Rattle.records.specs.Layout.{recordSize, places, partSize}
 use Rattle.store.specs.Places.{recordAt, onPlace}
 use Rattle.store.specs.Search.{waiting, between, placeOf, newPlace}
-use Rattle.store.specs.Change.{finished, retexted, corrected}
+use Rattle.changes.specs.Change.{finished, retexted, corrected}
 use Rattle.store.specs.declared.places.Found.{Found}
 use Rattle.store.specs.declared.places.Found.the-variants.{At}
 use Rattle.account.specs.Source.{known}

@@ -13,8 +13,8 @@ use Rattle.octets.proofs.StretchLaws.{and-left, and-right, and-both, if-cases, 
 use Rattle.forms.specs.Class.{within}
 use Rattle.forms.specs.Time.{storedTime}
 use Rattle.forms.proofs.ClassLaws.{within-low, within-high}
-use Rattle.store.specs.Layout.{stateOf, idOf, dateOf, errorOf}
-use Rattle.store.specs.Record.{textOk, fieldsOk, endOk, messageOk, recordOk}
+use Rattle.records.specs.Layout.{stateOf, idOf, dateOf, errorOf}
+use Rattle.records.specs.Record.{textOk, fieldsOk, endOk, messageOk, recordOk}
 use Rattle.wellformed.specs.Good.{GoodEnd, GoodWords, Good}
 
 pub or-either : (a b : Bool) → (a || b) ≡ true → (a ≡ true) ⊎ (b ≡ true)

@@ -10,9 +10,9 @@ use borrow.Author.Tests.{eqb-false, ne-eqb, not-true}
 use Rattle.octets.specs.Stretch.{every}
 use Rattle.octets.proofs.StretchLaws.{and-left, and-right, and-both, every-at}
 use Rattle.octets.proofs.RowsLaws.{rows-length, rows-at}
-use Rattle.store.specs.Layout.{recordSize, places, idOf}
-use Rattle.store.specs.Book.{usedOk}
-use Rattle.store.specs.Record.{recordOk}
+use Rattle.records.specs.Layout.{recordSize, places, idOf}
+use Rattle.records.specs.Book.{usedOk}
+use Rattle.records.specs.Record.{recordOk}
 use Rattle.store.specs.Places.{records, recordAt}
 use Rattle.store.specs.Search.{isEmpty}
 use Rattle.store.specs.Account.{otherId, apart, placesOk, accountOk}

@@ -7,7 +7,7 @@ use native.Mathlib.Omega.{arith}
 use lib.Dec.{eqb}
 use borrow.Author.Tests.{ne-eqb}
 use Rattle.forms.specs.declared.text.MessageId.the-variants.{Number}
-use Rattle.store.specs.Layout.{places, idOf}
+use Rattle.records.specs.Layout.{places, idOf}
 use Rattle.store.specs.Places.{recordAt}
 use Rattle.store.specs.Search.{isEmpty, hasId, placeOf}
 use Rattle.store.specs.Account.{accountOk}

@@ -4,7 +4,7 @@ use mathlib.Core.List.{List}
 use Prim.Native.Nat.{ℕ, zero, suc, _+_, _*_}
 use lib.ListN.{length}
 use Rattle.octets.proofs.PatchLaws.{patch-length}
-use Rattle.store.specs.Layout.{recordSize}
+use Rattle.records.specs.Layout.{recordSize}
 use Rattle.store.specs.Places.{recordAt, onPlace, onPlaces}
 use Rattle.account.specs.Submit.{Submitted, submitted}
 use Rattle.account.specs.Cancel.{Changed, cancelled}

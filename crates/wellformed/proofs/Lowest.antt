@@ -3,14 +3,16 @@
 use mathlib.Core.Path.{_≡_, sym, ap, subst, _∙_}
 use mathlib.Core.Bool.{Bool, true, false, not, _&&_, _||_, false≢true}
 use mathlib.Core.List.{List, [], _∷_}
-use Prim.Native.Nat.{ℕ, zero, suc, _+_, _<_}
+use Prim.Native.Nat.{ℕ, zero, suc, _+_, _*_, _<_}
 use native.Mathlib.Nat.{zero-add, add-zero}
 use native.Mathlib.Omega.{arith}
 use lib.ListN.{length, getD}
 use lib.Dec.{ltb}
+use Rattle.octets.specs.Stretch.{part}
+use Rattle.octets.specs.Rows.{rows}
 use Rattle.octets.proofs.StretchLaws.{and-left, and-true, if-cases}
 use Rattle.octets.proofs.RowsLaws.{rows-length, rows-at}
-use Rattle.store.specs.Layout.{recordSize, places}
+use Rattle.records.specs.Layout.{recordSize, places}
 use Rattle.store.specs.Places.{records, recordAt, OnePlace, over, none, keep, lowest}
 use Rattle.store.specs.declared.places.Found.{Found}
 use Rattle.store.specs.declared.places.Found.the-variants.{At, Nowhere}
@@ -31,26 +33,32 @@ module _ (passes : List ℕ → Bool) (rank : List ℕ → ℕ) where
       (λ i below. e (suc i) (omega arith) ∙ ap at (omega arith))
       (if-cases (Held at) _ _ _ (λ p _. ap passes (sym (e 0 (omega arith) ∙ ap at (add-zero k))) ∙ and-left _ _ p) (λ _. h))
 
+  -- of any count of rows of any size: those of a part, those of the book
+  pub row-passes : (size count k : ℕ) (xs : List ℕ) → lowest passes rank (rows size count xs) ≡ At k → passes (part (size * k) size xs) ≡ true
+  unfolding lowest Held
+  row-passes size count k xs =
+      if-cases (λ (x : Found). x ≡ At k → passes (row k) ≡ true) (best .found) (At (best .place)) Nowhere
+      (λ ok e. let same : best .place ≡ k = cc in ap (λ (i : ℕ). passes (row i)) (sym same) ∙ held ok)
+      (λ _ e. let z : _≡_ {A = ℕ} 0 1 = cc in absurd (omega arith))
+    where
+      row : ℕ → List ℕ
+      row i = part (size * i) size xs
+
+      best : Best
+      best = over (keep passes rank) none 0 (rows size count xs)
+
+      held : Held row best
+      held =
+          over-held row 0 none (rows size count xs)
+          (λ i h. rows-at size count i xs (omega (arith, rows-length size count xs)) ∙ ap row (sym (zero-add i)))
+          (λ e. absurd (false≢true e))
+
   module _ (part : List ℕ) (k : ℕ) (found : lowest passes rank (records part) ≡ At k) where
     pub found-place : k < places
     found-place = subst OnePlace found (lowest-below recordSize places passes rank part)
 
     pub found-passes : passes (recordAt k part) ≡ true
-    unfolding lowest Held
-    found-passes =
-        if-cases (λ (x : Found). x ≡ At k → passes (recordAt k part) ≡ true) (best .found) (At (best .place)) Nowhere
-        (λ ok e. let same : best .place ≡ k = cc in ap (λ (i : ℕ). passes (recordAt i part)) (sym same) ∙ held ok)
-        (λ _ e. let z : _≡_ {A = ℕ} 0 1 = cc in absurd (omega arith))
-        found
-      where
-        best : Best
-        best = over (keep passes rank) none 0 (records part)
-
-        held : Held (λ i. recordAt i part) best
-        held =
-            over-held (λ i. recordAt i part) 0 none (records part)
-            (λ i h. rows-at recordSize places i part (omega (arith, rows-length recordSize places part)) ∙ ap (λ (j : ℕ). recordAt j part) (sym (zero-add i)))
-            (λ e. absurd (false≢true e))
+    found-passes = row-passes recordSize places k part found
 
   -- a record that passes is kept unless there is one already
   keep-none : (b : Best) (k : ℕ) (r : List ℕ) → keep passes rank b k r .found ≡ false → (b .found ≡ false) × (passes r ≡ false)

@@ -13,10 +13,10 @@ use Rattle.octets.proofs.NumberLaws.{octets4-length, number-octets4}
 use Rattle.forms.specs.Time.{sentTime, storedTime}
 use Rattle.forms.specs.Field.{isField}
 use Rattle.forms.specs.declared.text.Form.the-variants.{Ascii}
-use Rattle.store.specs.Layout.{stateOf, idOf, defaultOf, lengthOf, textFieldOf}
-use Rattle.store.specs.Record.{addressOk, timeOk}
-use Rattle.store.specs.Change.{head, terms, message, newRecord}
-use Rattle.store.specs.declared.change.Fields.{Fields}
+use Rattle.records.specs.Layout.{stateOf, idOf, defaultOf, lengthOf, textFieldOf}
+use Rattle.records.specs.Record.{addressOk, timeOk}
+use Rattle.changes.specs.Change.{head, terms, message, newRecord}
+use Rattle.changes.specs.declared.Fields.{Fields}
 use Rattle.wellformed.specs.Rules.{Timed}
 use Rattle.wellformed.specs.Good.{Good, GoodFields}
 use Rattle.wellformed.proofs.GoodIs.{or-one, or-either}

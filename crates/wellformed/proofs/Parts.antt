@@ -7,8 +7,8 @@ use native.Mathlib.Omega.{arith}
 use lib.ListN.{length}
 use lib.Dec.{eqb}
 use borrow.Author.Tests.{eqb-true, eqb-false, ne-eqb}
-use Rattle.store.specs.Layout.{recordSize, places, partSize, stateOf, idOf}
-use Rattle.store.specs.Record.{recordOk}
+use Rattle.records.specs.Layout.{recordSize, places, partSize, stateOf, idOf}
+use Rattle.records.specs.Record.{recordOk}
 use Rattle.store.specs.Places.{recordAt, onPlace}
 use Rattle.store.specs.Search.{isEmpty, waiting}
 use Rattle.wellformed.specs.Good.{Good, Clash, GoodPart}

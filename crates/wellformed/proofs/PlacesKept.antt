@@ -10,7 +10,7 @@ use borrow.Author.Tests.{ltb-true, ltb-false, eqb-true, eqb-false}
 use Rattle.octets.specs.Stretch.{part}
 use Rattle.octets.proofs.StretchLaws.{part-length}
 use Rattle.octets.proofs.PatchLaws.{patch-length, part-patch, part-before, part-after}
-use Rattle.store.specs.Layout.{recordSize, places, partSize}
+use Rattle.records.specs.Layout.{recordSize, places, partSize}
 use Rattle.store.specs.Places.{recordAt, onPlace, onPlaces}
 
 pub record-within : (k : ℕ) (part : List ℕ) → length (recordAt k part) ≤ recordSize

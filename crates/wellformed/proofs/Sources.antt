@@ -18,8 +18,8 @@ use Rattle.forms.specs.declared.class.Class.the-variants.{NotNul, Decimal}
 use Rattle.forms.specs.declared.text.Form.{Form}
 use Rattle.forms.specs.declared.text.Form.the-variants.{Ascii, Digits, Address, AddressOrNone}
 use Rattle.forms.proofs.ClassLaws.{lead-within, within-low}
-use Rattle.store.specs.Record.{addressOk}
-use Rattle.store.specs.Book.{bookRecordSize, systemOf, passwordOf, kindOf, callbackOf, endedText, bookOk, usedOk}
+use Rattle.records.specs.Record.{addressOk}
+use Rattle.records.specs.Book.{bookRecordSize, systemOf, passwordOf, kindOf, callbackOf, endedText, bookOk, usedOk}
 use Rattle.account.specs.Source.{noAddress, sourceFor}
 use Rattle.wellformed.specs.Rules.{Addressed}
 use Rattle.wellformed.proofs.GoodIs.{both, or-second}

@@ -8,8 +8,8 @@ use native.Mathlib.Omega.{arith}
 use lib.ListN.{length, length-take}
 use Rattle.wire.specs.Fields.{octetsOf}
 use Rattle.forms.specs.declared.text.Form.the-variants.{Ascii}
-use Rattle.store.specs.Layout.{recordSize, stateOf, idOf}
-use Rattle.store.specs.Book.{bookRecordSize, usedOk}
+use Rattle.records.specs.Layout.{recordSize, stateOf, idOf}
+use Rattle.records.specs.Book.{bookRecordSize, usedOk}
 use Rattle.account.specs.Source.{noAddress}
 use Rattle.account.specs.Submit.{fieldsOf}
 use Rattle.wire.specs.declared.fields.Span.{Span}

@@ -1,19 +1,17 @@
 -- Laws of texts in zero-padded fields and of times. Assumes nothing.
 use mathlib.Core.Path.{_≡_, refl, ap, _∙_}
-use mathlib.Core.Bool.{Bool, true, false, false≢true}
+use mathlib.Core.Bool.{Bool, true}
 use mathlib.Core.List.{List, [], _∷_, _++_}
 use Prim.Native.Nat.{ℕ, zero, suc, _-_, _≤_}
 use native.Mathlib.Omega.{arith}
 use lib.ListN.{length, take, replicate, length-append, length-replicate}
 use lib.Seq.{take-append-seam, drop-append-seam}
-use lib.Dec.{eqb}
-use borrow.Author.Tests.{eqb-true}
 use Rattle.octets.specs.Choice.{if_then_else_}
 use Rattle.octets.specs.Stretch.{every, isZero, padded}
 use Rattle.octets.proofs.StretchLaws.{and-left, and-right, and-both, if-cases, if-true}
 use Rattle.forms.specs.Class.{inClass, lead}
 use Rattle.forms.specs.Text.{formed}
-use Rattle.forms.specs.Time.{isTime, sentTime, storedTime}
+use Rattle.forms.specs.Time.{sentTime, storedTime}
 use Rattle.forms.specs.Field.{textOf, isField}
 use Rattle.forms.specs.declared.class.Class.the-variants.{NotNul}
 use Rattle.forms.specs.declared.text.Form.{Form}
@@ -59,13 +57,8 @@ padded-field form n text noNul h =
     lead-append (inClass NotNul) text (replicate m 0) (lead-zeros m) ∙ lead-all (inClass NotNul) text noNul in
     rw (e, take-append-seam text (replicate m 0), drop-append-seam text (replicate m 0)) (and-both (formed form text) _ h (every-replicate isZero m 0 refl))
 
--- ---- a time that is sent may be stored, and has 16 characters
+-- ---- a time that is sent may be stored
 
 pub sent-stored : (t : List ℕ) → sentTime t ≡ true → storedTime t ≡ true
 unfolding sentTime storedTime
 sent-stored t h = h
-
-pub sent-length : (t : List ℕ) → sentTime t ≡ true → length t ≡ 16
-unfolding sentTime isTime
-sent-length t h =
-    if-cases (λ (ok : Bool). ok ≡ true → length t ≡ 16) (eqb (length t) 16) _ false (λ e _. eqb-true (length t) 16 e) (λ _ e. absurd (false≢true e)) h

@@ -9,9 +9,9 @@ use Rattle.requests.specs.Replace.{replaceOf}
 use Rattle.requests.specs.declared.submit.Submit.{Submit}
 use Rattle.requests.specs.declared.cancel.Cancel.{Cancel}
 use Rattle.requests.specs.declared.replace.Replace.{Replace}
-use Rattle.store.specs.Layout.{places, idOf}
+use Rattle.records.specs.Layout.{places, idOf}
 use Rattle.store.specs.Places.{recordAt, onPlace, onPlaces}
-use Rattle.store.specs.Change.{newRecord, retexted, corrected, finished}
+use Rattle.changes.specs.Change.{newRecord, retexted, corrected, finished}
 use Rattle.account.specs.Source.{sourceFor}
 use Rattle.account.specs.Submit.{Submitted, fieldsOf}
 use Rattle.account.specs.Cancel.{Changed, changed, deleted, deletedIf}

@@ -9,9 +9,9 @@ use Rattle.octets.specs.Stretch.{padded, zeros}
 use Rattle.forms.specs.Field.{isField}
 use Rattle.forms.specs.Time.{storedTime}
 use Rattle.forms.specs.declared.text.Form.the-variants.{Ascii}
-use Rattle.store.specs.Layout.{places, stateOf, idOf, sourceOf, destinationOf, serviceOf, priorityOf, scheduleOf, validityOf, registeredOf, defaultOf, lengthOf, textFieldOf, dateOf, errorOf, spareOf}
-use Rattle.store.specs.Record.{addressOk, timeOk, recordOk}
-use Rattle.store.specs.declared.change.Fields.{Fields}
+use Rattle.records.specs.Layout.{places, stateOf, idOf, sourceOf, destinationOf, serviceOf, priorityOf, scheduleOf, validityOf, registeredOf, defaultOf, lengthOf, textFieldOf, dateOf, errorOf, spareOf}
+use Rattle.records.specs.Record.{addressOk, timeOk, recordOk}
+use Rattle.changes.specs.declared.Fields.{Fields}
 use Rattle.store.specs.Places.{recordAt}
 use Rattle.store.specs.Search.{isEmpty}
 use Rattle.wellformed.specs.Rules.{Timed}

@@ -2,4 +2,3 @@ pub mod Status
 pub mod Frame
 pub mod Cursor
 pub mod Fields
-pub mod Reply

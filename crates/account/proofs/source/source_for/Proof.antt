@@ -5,7 +5,7 @@ use lib.ListN.{replicate}
 use Rattle.octets.specs.Choice.{if_then_else_}
 use Rattle.octets.proofs.PatchLaws.{patch-whole}
 use Rattle.octets.proofs.StretchLaws.{part-length}
-use Rattle.store.specs.Book.{callbackOf}
+use Rattle.records.specs.Book.{callbackOf}
 use Rattle.account.specs.Source.{sourceFor}
 use borrow.Author.Needs.{needs}
 use Rattle.account.proofs.source.source_for.Statement.{statement}

@@ -7,7 +7,7 @@ use borrow.Author.Tests.{eq-eqb, ne-eqb, lt-ltb, le-ltb}
 use Rattle.octets.specs.Choice.{if_then_else_}
 use Rattle.octets.proofs.StretchLaws.{part-part}
 use Rattle.isolation.specs.Platform.{step}
-use Rattle.centre.specs.Answer.{picked}
+use Rattle.answers.specs.Answer.{picked}
 use Rattle.centre.specs.Centre.{act}
 use Rattle.centre.specs.Pick.{PlacedInside}
 use borrow.Author.Needs.{needs}

@@ -2,7 +2,7 @@
 use mathlib.Core.Path.{sym, _∙_}
 use borrow.Author.Tests.{not-true, not-false}
 use Rattle.octets.specs.Choice.{if_then_else_}
-use Rattle.centre.specs.Bound.{onOutcome}
+use Rattle.centre.specs.Operations.{onOutcome}
 use borrow.Author.Needs.{needs}
 use Rattle.centre.proofs.operations.on_outcome.Statement.{statement}
 use Rattle.centre.proofs.operations.on_outcome.Tie as tie

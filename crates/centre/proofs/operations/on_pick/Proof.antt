@@ -3,7 +3,7 @@ use mathlib.Core.Path.{sym, _∙_, subst}
 use borrow.Author.Tests.{not-true, not-false}
 use Rattle.octets.specs.Choice.{if_then_else_}
 use Rattle.store.specs.Places.{OnePlace}
-use Rattle.centre.specs.Bound.{onPick}
+use Rattle.centre.specs.Operations.{onPick}
 use borrow.Author.Needs.{needs}
 use Rattle.centre.proofs.operations.on_pick.Statement.{statement}
 use Rattle.centre.proofs.operations.on_pick.Tie as tie

@@ -1,5 +1,5 @@
 -- `centre::take::take_open` meets its contract. Assumes nothing.
-use Rattle.centre.specs.Open.{onOpen}
+use Rattle.open.specs.Open.{onOpen}
 use borrow.Author.Needs.{needs}
 use Rattle.centre.proofs.take.take_open.Statement.{statement}
 use Rattle.centre.proofs.take.take_open.Tie as tie

@@ -1,32 +1,26 @@
+-- `inverook::flat::entry_of` meets its contract. Assumes nothing.
 use borrow.Author.Tests.{ne-eqb}
 use Rattle.octets.specs.Choice.{if_then_else_}
 use Rattle.inverook.specs.Flat.{entryOf}
 use Rattle.inverook.proofs.flat.entry_of.Statement.{statement}
 use Rattle.inverook.proofs.flat.entry_of.Tie as tie
-use Rattle.inverook.proofs.flat.entry_of.Reads as reads
-use Rattle.inverook.proofs.flat.entry_of.Lts as lts
 
--- src/flat.rt:20:1
 returns : tie.Need-returns
 unfolding if_then_else_ entryOf
 returns c = simp (c .match .keys1)
 
--- src/flat.rt:20:1
 returns-2 : tie.Need-returns-2
 unfolding if_then_else_ entryOf
 returns-2 c = simp (c .match .keys2)
 
--- src/flat.rt:20:1
 returns-3 : tie.Need-returns-3
 unfolding if_then_else_ entryOf
 returns-3 c = simp (c .match .keys3)
 
--- src/flat.rt:20:1
 returns-4 : tie.Need-returns-4
 unfolding if_then_else_ entryOf
 returns-4 c = simp (c .match .keys4)
 
--- src/flat.rt:20:1
 returns-5 : tie.Need-returns-5
 unfolding if_then_else_ entryOf
 returns-5 c = simp (ne-eqb _ _ (c .match .rest .0 .0 .0 .1), ne-eqb _ _ (c .match .rest .0 .0 .1), ne-eqb _ _ (c .match .rest .0 .1), ne-eqb _ _ (c .match .rest .1))

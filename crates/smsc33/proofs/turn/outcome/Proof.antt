@@ -1,70 +1,51 @@
+-- `smsc33::turn::outcome` meets its contract. Assumes nothing.
 use native.Mathlib.Omega.{arith}
 use mathlib.Core.List.{[]}
-use Rattle.smsc33.proofs.TextLaws.{told-is, told-fits}
-use Rattle.smsc33.specs.Line.{line}
+use Rattle.lines.proofs.TextLaws.{told-is, told-fits}
+use Rattle.lines.specs.Line.{line}
 use borrow.Author.Needs.{needs}
 use Rattle.smsc33.proofs.turn.outcome.Statement.{statement}
 use Rattle.smsc33.proofs.turn.outcome.Tie as tie
-use Rattle.smsc33.proofs.turn.outcome.Reads as reads
-use Rattle.smsc33.proofs.turn.outcome.Lts as lts
-use Rattle.centre.proofs.operations.outcome.Reads as outcome-reads
-use Rattle.octets.proofs.number.number_at.Reads as number-at-reads
-use Rattle.smsc33.proofs.record.wide.Reads as wide-reads
-use Rattle.smsc33.proofs.text.put_line.Reads as put-line-reads
 
--- src/turn.rt:79:9
 number-at-requires : tie.Need-number-at-requires
 number-at-requires c κs = search needs
 
--- src/turn.rt:84:9
 sub-outcome : tie.Need-sub-outcome
 sub-outcome c = search needs
 
--- src/turn.rt:84:9
 part-outcome-start : tie.Need-part-outcome-start
 part-outcome-start c = search needs
 
--- src/turn.rt:84:9
 part-outcome-end : tie.Need-part-outcome-end
 part-outcome-end c = search needs
 
--- src/turn.rt:85:22
 shared-slice-read-wide : tie.Need-shared-slice-read-wide
 shared-slice-read-wide c = search needs
 
--- src/turn.rt:85:9
 wide-requires : tie.Need-wide-requires
 wide-requires c κs = search needs
 
--- src/turn.rt:87:9
 shared-slice-read-outcome : tie.Need-shared-slice-read-outcome
 shared-slice-read-outcome c = search needs
 
--- src/turn.rt:88:9
 shared-slice-read-outcome-2 : tie.Need-shared-slice-read-outcome-2
 shared-slice-read-outcome-2 c = search needs
 
--- src/turn.rt:80:9
 outcome-requires : tie.Need-outcome-requires
 outcome-requires c κs = search needs
 
--- src/turn.rt:90:50
 slice-aggregate-put-line : tie.Need-slice-aggregate-put-line
 slice-aggregate-put-line c = search needs
 
--- src/turn.rt:90:9
 put-line-requires : tie.Need-put-line-requires
 put-line-requires c κs = search needs
 
--- src/turn.rt:75:1
 same-length : tie.Need-same-length
 same-length c = search needs
 
--- src/turn.rt:75:1
 same-length-2 : tie.Need-same-length-2
 same-length-2 c = search needs
 
--- src/turn.rt:75:1
 returns : tie.Need-returns
 returns c =
     let s = rw (c .before .before .before .before .before .before .before .before .before .before .before .before .before .before .number-at .ensures, c .before .before .before .before .before .before .before .before .before .before .wide .ensures .0) at (c .before .before .before .before .before .before .before .outcome .ensures) in

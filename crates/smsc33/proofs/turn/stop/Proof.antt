@@ -1,26 +1,21 @@
+-- `smsc33::turn::stop` meets its contract. Assumes nothing.
 use mathlib.Core.Path.{_≡_, refl}
 use lib.ListN.{take}
 use native.Mathlib.Omega.{arith}
 use Rattle.octets.specs.Stretch.{patch}
 use Rattle.octets.proofs.PatchLaws.{patch-length}
-use Rattle.smsc33.specs.Line.{badRecord}
-use Rattle.smsc33.proofs.TextLaws.{said-is}
+use Rattle.lines.specs.Line.{badRecord}
+use Rattle.lines.proofs.TextLaws.{said-is}
 use borrow.Author.Needs.{needs}
 use Rattle.smsc33.proofs.turn.stop.Statement.{statement}
 use Rattle.smsc33.proofs.turn.stop.Tie as tie
-use Rattle.smsc33.proofs.turn.stop.Reads as reads
-use Rattle.smsc33.proofs.turn.stop.Lts as lts
-use Rattle.octets.proofs.stretch.put.Reads as put-reads
 
--- src/turn.rt:103:5
 put-requires : tie.Need-put-requires
 put-requires c κs = search needs
 
--- src/turn.rt:98:1
 same-length : tie.Need-same-length
 same-length c = search needs
 
--- src/turn.rt:98:1
 returns : tie.Need-returns
 returns c =
     let e : take 11 (patch (c .before .before .before .before .before .before .before .args .text .now) 0 badRecord) ≡ badRecord = said-is (c .before .before .before .before .before .before .before .args .text .now) badRecord (omega (arith, c .before .before .before .before .before .before .before .pre)) in

@@ -1,45 +1,33 @@
+-- `smsc33::turn::take` meets its contract. Assumes nothing.
 use native.Mathlib.Omega.{arith}
 use lib.ListN.{length-take}
-use Rattle.smsc33.proofs.TextLaws.{told-is, told-fits}
-use Rattle.smsc33.specs.Line.{line}
+use Rattle.lines.proofs.TextLaws.{told-is, told-fits}
+use Rattle.lines.specs.Line.{line}
 use borrow.Author.Needs.{needs}
 use Rattle.smsc33.proofs.turn.take.Statement.{statement}
 use Rattle.smsc33.proofs.turn.take.Tie as tie
-use Rattle.smsc33.proofs.turn.take.Reads as reads
-use Rattle.smsc33.proofs.turn.take.Lts as lts
-use Rattle.centre.proofs.take.take.Reads as take-reads
-use Rattle.octets.proofs.stretch.first.Reads as first-reads
-use Rattle.smsc33.proofs.text.put_line.Reads as put-line-reads
 
--- src/turn.rt:64:79
 slice-aggregate-take : tie.Need-slice-aggregate-take
 slice-aggregate-take c = search needs
 
--- src/turn.rt:64:9
 take-requires : tie.Need-take-requires
 take-requires c κs = search needs
 
--- src/turn.rt:66:40
 slice-aggregate-first : tie.Need-slice-aggregate-first
 slice-aggregate-first c = search needs
 
--- src/turn.rt:66:9
 first-requires : tie.Need-first-requires
 first-requires c κs = search needs
 
--- src/turn.rt:67:9
 put-line-requires : tie.Need-put-line-requires
 put-line-requires c κs = (rw (c .before .first .ensures, length-take) (omega (arith, slice-aggregate-first (c .before .before))), c .before .before .before .before .before .before .before .before .before .before .before .before .before .before .before .pre)
 
--- src/turn.rt:51:1
 same-length : tie.Need-same-length
 same-length c = search needs
 
--- src/turn.rt:51:1
 same-length-2 : tie.Need-same-length-2
 same-length-2 c = search needs
 
--- src/turn.rt:51:1
 returns : tie.Need-returns
 returns c =
     let t = c .before .before .before .before .before .before .before .before .before .before .before .before .before .before .before .before .before .before .args .text .now in

@@ -1,174 +1,128 @@
+-- `smsc33::turn::turn` meets its contract. Assumes nothing.
 use mathlib.Core.Path.{subst}
 use native.Mathlib.Omega.{arith}
 use native.Mathlib.Nat.{add-sub-cancel-left}
-use Rattle.smsc33.specs.Record.{Readable}
-use Rattle.smsc33.specs.declared.record.Order.{Order}
+use Rattle.lines.specs.Record.{Readable}
+use Rattle.lines.specs.declared.record.Order.{Order}
 use Rattle.smsc33.specs.Turn.{turnOf}
 use borrow.Author.Needs.{needs}
 use Rattle.smsc33.proofs.turn.turn.Statement.{statement}
 use Rattle.smsc33.proofs.turn.turn.Tie as tie
-use Rattle.smsc33.proofs.turn.turn.Reads as reads
-use Rattle.smsc33.proofs.turn.turn.Lts as lts
-use Rattle.smsc33.proofs.record.length_of.Reads as length-of-reads
-use Rattle.smsc33.proofs.record.order_of.Reads as order-of-reads
-use Rattle.smsc33.proofs.record.wide.Reads as wide-reads
-use Rattle.smsc33.proofs.turn.close.Reads as close-reads
-use Rattle.smsc33.proofs.turn.open.Reads as open-reads
-use Rattle.smsc33.proofs.turn.outcome.Reads as outcome-reads
-use Rattle.smsc33.proofs.turn.stop.Reads as stop-reads
-use Rattle.smsc33.proofs.turn.take.Reads as take-reads
 
--- src/turn.rt:115:9
 order-of-requires : tie.Need-order-of-requires
 order-of-requires c κs = search needs
 
--- src/turn.rt:117:49
 enum-told : tie.Need-enum-told
 enum-told c = search needs
 
--- src/turn.rt:117:49
 shared-slice-read-wide : tie.Need-shared-slice-read-wide
 shared-slice-read-wide c = let h = subst (λ (o : Order). Readable o (c .before .before .before .before .before .before .before .before .args .asked .now)) (c .before .enum-told .given .1) (c .before .before .before .order-of .ensures .1) in omega (arith, h)
 
--- src/turn.rt:117:36
 wide-requires : tie.Need-wide-requires
 wide-requires c κs = search needs
 
--- src/turn.rt:117:24
 open-requires : tie.Need-open-requires
 open-requires c κs = search needs
 
--- src/turn.rt:119:28
 enum-told-2 : tie.Need-enum-told-2
 enum-told-2 c = search needs
 
--- src/turn.rt:119:28
 length-of-requires : tie.Need-length-of-requires
 length-of-requires c κs = subst (λ (o : Order). Readable o (c .before .before .before .before .before .before .before .args .asked .now)) (c .enum-told2 .given .1) (c .before .before .order-of .ensures .1) .0
 
--- src/turn.rt:119:23
 add-end : tie.Need-add-end
 add-end c = search needs
 
--- src/turn.rt:124:30
 shared-slice-read-wide-2 : tie.Need-shared-slice-read-wide-2
 shared-slice-read-wide-2 c = let h = subst (λ (o : Order). Readable o (c .before .before .before .before .before .before .before .before .before .before .args .asked .now)) (c .before .before .before .enum-told2 .given .1) (c .before .before .before .before .before .order-of .ensures .1) in omega (arith, h .0)
 
--- src/turn.rt:124:17
 wide-requires-2 : tie.Need-wide-requires-2
 wide-requires-2 c κs = search needs
 
--- src/turn.rt:125:17
 sub-take : tie.Need-sub-take
 sub-take c = search needs
 
--- src/turn.rt:125:17
 part-take-start : tie.Need-part-take-start
 part-take-start c = search needs
 
--- src/turn.rt:125:17
 part-take-end : tie.Need-part-take-end
 part-take-end c = let h = subst (λ (o : Order). Readable o (c .before .before .before .before .before .before .before .before .before .before .before .args .asked .now)) (c .before .before .before .before .enum-told2 .given .1) (c .before .before .before .before .before .before .order-of .ensures .1) in omega (arith, h .0, h .1, c .before .before .before .length-of .ensures .0)
 
--- src/turn.rt:126:17
 sub-take-2 : tie.Need-sub-take-2
 sub-take-2 c = search needs
 
--- src/turn.rt:126:17
 part-take-start-2 : tie.Need-part-take-start-2
 part-take-start-2 c = search needs
 
--- src/turn.rt:126:17
 part-take-end-2 : tie.Need-part-take-end-2
 part-take-end-2 c = let h = subst (λ (o : Order). Readable o (c .before .before .before .before .before .before .before .before .before .before .before .before .args .asked .now)) (c .before .before .before .before .before .enum-told2 .given .1) (c .before .before .before .before .before .before .before .order-of .ensures .1) in omega (arith, h .0)
 
--- src/turn.rt:120:13
 take-requires : tie.Need-take-requires
 take-requires c κs = search needs
 
--- src/turn.rt:130:51
 enum-told-3 : tie.Need-enum-told-3
 enum-told-3 c = search needs
 
--- src/turn.rt:130:51
 shared-slice-read-wide-3 : tie.Need-shared-slice-read-wide-3
 shared-slice-read-wide-3 c = let h = subst (λ (o : Order). Readable o (c .before .before .before .before .before .before .before .before .args .asked .now)) (c .before .enum-told3 .given .1) (c .before .before .before .order-of .ensures .1) in omega (arith, h)
 
--- src/turn.rt:130:38
 wide-requires-3 : tie.Need-wide-requires-3
 wide-requires-3 c κs = search needs
 
--- src/turn.rt:130:25
 close-requires : tie.Need-close-requires
 close-requires c κs = search needs
 
--- src/turn.rt:131:41
 enum-told-4 : tie.Need-enum-told-4
 enum-told-4 c = search needs
 
--- src/turn.rt:131:27
 outcome-requires : tie.Need-outcome-requires
 outcome-requires c κs = (subst (λ (o : Order). Readable o (c .before .before .before .before .before .before .before .before .before .args .asked .now)) (c .before .before .enum-told4 .given .1) (c .before .before .before .before .order-of .ensures .1), c .before .before .before .before .before .before .before .before .before .pre)
 
--- src/turn.rt:132:35
 enum-told-5 : tie.Need-enum-told-5
 enum-told-5 c = search needs
 
--- src/turn.rt:132:23
 stop-requires : tie.Need-stop-requires
 stop-requires c κs = search needs
 
--- src/turn.rt:111:1
 same-length : tie.Need-same-length
 same-length c = search needs
 
--- src/turn.rt:111:1
 returns : tie.Need-returns
 unfolding turnOf
 returns c = (rw (← (c .before .before .before .before .before .before .before .before .order-of .ensures .0), c .before .before .before .before .before .before .enum-told .given .1, ← (c .before .before .before .before .wide .ensures .0)) (c .before .before .«open» .ensures .0 (c .before .before .before .before .before .before .before .before .before .before .before .before .before .args .book .now) (c .before .before .before .before .before .before .before .before .before .before .before .before .before .args .table .now)), c .before .before .«open» .ensures .1)
 
--- src/turn.rt:111:1
 same-length-2 : tie.Need-same-length-2
 same-length-2 c = search needs
 
--- src/turn.rt:111:1
 same-length-3 : tie.Need-same-length-3
 same-length-3 c = search needs
 
--- src/turn.rt:111:1
 returns-2 : tie.Need-returns-2
 unfolding turnOf
 returns-2 c =
     let s = rw (add-sub-cancel-left 20 (c .before .before .before .before .before .before .before .before .before .before .before .length-of .result)) at (c .before .before .before .before .take .ensures .0) in
     (rw (← (c .before .before .before .before .before .before .before .before .before .before .before .before .before .before .order-of .ensures .0), c .before .before .before .before .before .before .before .before .before .before .before .before .enum-told2 .given .1, ← (c .before .before .before .before .before .before .before .before .wide2 .ensures .0), ← (c .before .before .before .before .before .before .before .before .before .before .before .length-of .ensures .0)) s, c .before .before .before .before .take .ensures .1)
 
--- src/turn.rt:111:1
 same-length-4 : tie.Need-same-length-4
 same-length-4 c = search needs
 
--- src/turn.rt:111:1
 returns-3 : tie.Need-returns-3
 unfolding turnOf
 returns-3 c = (rw (← (c .before .before .before .before .before .before .before .before .order-of .ensures .0), c .before .before .before .before .before .before .enum-told3 .given .1, ← (c .before .before .before .before .wide3 .ensures .0)) (c .before .before .close .ensures .0 (c .before .before .before .before .before .before .before .before .before .before .before .before .before .args .book .now) (c .before .before .before .before .before .before .before .before .before .before .before .before .before .args .table .now)), c .before .before .close .ensures .1)
 
--- src/turn.rt:111:1
 same-length-5 : tie.Need-same-length-5
 same-length-5 c = search needs
 
--- src/turn.rt:111:1
 same-length-6 : tie.Need-same-length-6
 same-length-6 c = search needs
 
--- src/turn.rt:111:1
 returns-4 : tie.Need-returns-4
 unfolding turnOf
 returns-4 c = (rw (← (c .before .before .before .before .before .before .before .before .before .order-of .ensures .0), c .before .before .before .before .before .before .before .enum-told4 .given .1) (c .before .before .before .before .outcome .ensures .0), c .before .before .before .before .outcome .ensures .1)
 
--- src/turn.rt:111:1
 same-length-7 : tie.Need-same-length-7
 same-length-7 c = search needs
 
--- src/turn.rt:111:1
 returns-5 : tie.Need-returns-5
 unfolding turnOf
 returns-5 c = (rw (← (c .before .before .before .before .before .before .order-of .ensures .0), c .before .before .before .before .enum-told5 .given .1) (c .before .before .stop .ensures .0 (c .before .before .before .before .before .before .before .before .before .before .before .args .table .now)), c .before .before .stop .ensures .1)

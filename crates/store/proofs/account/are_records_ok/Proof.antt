@@ -4,7 +4,7 @@ use mathlib.Core.Bool.{_&&_}
 use Prim.Native.Nat.{_≤_, _-_}
 use native.Mathlib.Omega.{arith}
 use Rattle.octets.specs.Stretch.{every}
-use Rattle.store.specs.Record.{recordOk}
+use Rattle.records.specs.Record.{recordOk}
 use Rattle.store.specs.Places.{records}
 use Rattle.store.proofs.PlacesLaws.{from, every-more, every-done}
 use Rattle.store.proofs.account.are_records_ok.Statement.{statement}

@@ -3,7 +3,7 @@ use mathlib.Core.Path.{_≡_, sym, ap, _∙_, subst}
 use Prim.Native.Nat.{_≤_, _-_}
 use native.Mathlib.Omega.{arith}
 use Rattle.octets.specs.Rows.{rows, rowsFrom}
-use Rattle.store.specs.Book.{named}
+use Rattle.records.specs.Book.{named}
 use Rattle.store.specs.Places.{Below, over, none, keep, foundOf, lowest}
 use Rattle.store.proofs.PlacesLaws.{over-next, over-last, lowest-below}
 use borrow.Author.Needs.{needs}

@@ -1,0 +1,85 @@
+-- What the calls are given and what they answer (document 01, "Numbers a caller gets" and "From octets to a response").
+use Prim.Native.Nat.{ℕ}
+use mathlib.Core.List.{List, []}
+use Rattle.wire.specs.Status.{invalidCommandLength}
+use Rattle.answers.specs.Reply.{reply, over, genericNak, noBody}
+
+-- what taking octets is given, besides book, table, state and session
+pub record Octets : Type 0 where
+  pub octets : List ℕ
+  pub stamp : List ℕ
+  pub space : List ℕ
+
+-- what an outcome is given, besides book, table, state and account
+pub record Outcome : Type 0 where
+  pub stamp : List ℕ
+  pub id : ℕ
+  pub state : ℕ
+  pub error : ℕ
+
+-- a number alone; of octets, also how many were consumed and written, and the response space; of a pick, also the record
+pub data Answer : Type 0 where
+  numbered : ℕ → Answer
+  taken : ℕ → ℕ → ℕ → List ℕ → Answer
+  picked : ℕ → List ℕ → Answer
+
+-- its number, and the record of a pick
+abbrev pub numberOf : Answer → ℕ
+numberOf (numbered n) = n
+numberOf (taken n consumed written space) = n
+numberOf (picked n r) = n
+
+abbrev pub pickedRecord : Answer → List ℕ
+pickedRecord (numbered n) = []
+pickedRecord (taken n consumed written space) = []
+pickedRecord (picked n r) = r
+
+-- every answer but 0 consumes nothing and writes nothing
+abbrev pub refusedOctets : ℕ → Octets → Answer
+refusedOctets number x = taken number 0 0 (x .space)
+
+abbrev pub refusedPick : ℕ → Answer
+refusedPick number = picked number []
+
+-- one PDU of n octets taken and answered; taken and not answered
+abbrev pub repliedTo : ℕ → ℕ → ℕ → ℕ → List ℕ → List ℕ → Answer
+repliedTo n id status sequence body space =
+    let r = over (reply id status sequence body) space in
+    taken 0 n (r .count) (r .space)
+
+abbrev pub silent : ℕ → List ℕ → Answer
+silent n space = taken 0 n 0 space
+
+-- a length that no PDU has: generic_nak with status 2 and sequence 0, 4 octets consumed (and the session ends)
+abbrev pub nakLength : List ℕ → Answer
+nakLength space = repliedTo 4 genericNak invalidCommandLength 0 noBody space
+
+-- ---- request ids (002, 7.2, with document 01's values); a reply's id is the request's plus 0x80000000
+
+abbrev pub bindReceiver : ℕ
+bindReceiver = 1
+
+abbrev pub bindTransmitter : ℕ
+bindTransmitter = 2
+
+abbrev pub querySm : ℕ
+querySm = 3
+
+abbrev pub submitSm : ℕ
+submitSm = 4
+
+abbrev pub unbind : ℕ
+unbind = 6
+
+abbrev pub replaceSm : ℕ
+replaceSm = 7
+
+abbrev pub cancelSm : ℕ
+cancelSm = 8
+
+abbrev pub enquireLink : ℕ
+enquireLink = 0x15
+
+-- a command id with its top bit set is a response
+abbrev pub firstResponse : ℕ
+firstResponse = 0x80000000

@@ -1,0 +1,31 @@
+-- `records::book::record_of` meets its contract. Assumes nothing.
+use mathlib.Core.Path.{ap, _∙_}
+use Prim.Native.Nat.{_*_}
+use native.Mathlib.Omega.{arith}
+use lib.ListN.{length}
+use Rattle.octets.proofs.StretchLaws.{part-cut, part-length}
+use borrow.Author.Needs.{needs}
+use Rattle.records.proofs.book.record_of.Statement.{statement}
+use Rattle.records.proofs.book.record_of.Tie as tie
+
+mul-at : tie.Need-mul-at
+mul-at c = search needs
+
+add-result : tie.Need-add-result
+add-result c = search needs
+
+sub-result : tie.Need-sub-result
+sub-result c = search needs
+
+part-result-start : tie.Need-part-result-start
+part-result-start c = search needs
+
+part-result-end : tie.Need-part-result-end
+part-result-end c = search needs
+
+returns : tie.Need-returns
+returns c = let e = part-cut (64 * c .before .args .a) 64 (c .before .args .book .now) in (e, ap length e ∙ part-length (64 * c .before .args .a) 64 (c .before .args .book .now) (omega arith))
+
+pub record-of-spec : {M : Type 1} → statement M
+record-of-spec =
+    tie.close (tie.spec mul-at add-result sub-result part-result-start part-result-end returns)

@@ -1,0 +1,16 @@
+-- `records::record::is_time_ok` meets its contract. Assumes nothing.
+use borrow.Author.Needs.{needs}
+use Rattle.records.proofs.record.is_time_ok.Statement.{statement}
+use Rattle.records.proofs.record.is_time_ok.Tie as tie
+
+all-zero-requires : tie.Need-all-zero-requires
+all-zero-requires c κs = search needs
+
+is-stored-time-requires : tie.Need-is-stored-time-requires
+is-stored-time-requires c κs = search needs
+
+returns : tie.Need-returns
+returns c = rw (c .before .all-zero .ensures, c .is-stored-time .ensures)
+
+pub is-time-ok-spec : {M : Type 1} → statement M
+is-time-ok-spec = tie.close (tie.spec all-zero-requires is-stored-time-requires returns)

@@ -1,0 +1,65 @@
+-- The account book's record of 64 octets (document 01, "The account book and the table").
+use Prim.Native.Nat.{ℕ, _-_, _*_}
+use mathlib.Core.Bool.{Bool, not, _&&_}
+use mathlib.Core.List.{List}
+use lib.ListN.{length, getD}
+use lib.Dec.{eqb}
+use Rattle.octets.specs.Stretch.{part, same, zeros}
+use Rattle.forms.specs.Field.{textOf, isField}
+use Rattle.forms.specs.declared.text.Form.{Form}
+use Rattle.forms.specs.declared.text.Form.the-variants.{Ascii, Digits}
+
+abbrev pub bookRecordSize : ℕ
+bookRecordSize = 64
+
+-- 0-15 system_id, 16-24 password, 25-37 system_type
+abbrev pub systemOf : List ℕ → List ℕ
+systemOf b = part 0 16 b
+
+abbrev pub passwordOf : List ℕ → List ℕ
+passwordOf b = part 16 9 b
+
+abbrev pub kindOf : List ℕ → List ℕ
+kindOf b = part 25 13 b
+
+-- 38 callback ton, 39 callback npi, 40-60 callback address: as a source, its 20 characters at most
+abbrev pub callbackOf : List ℕ → List ℕ
+callbackOf b = part 38 22 b
+
+-- a text in a field that ends with at least one zero octet
+abbrev pub endedText : Form → List ℕ → Bool
+endedText form field = isField form field && eqb (getD field (length field - 1) 0) 0
+
+-- each text ASCII, the callback address 1 to 20 decimal digits, 61-63 zero
+unfoldable pub bookOk : List ℕ → Bool
+bookOk b =
+    endedText Ascii (systemOf b)
+    && endedText Ascii (passwordOf b)
+    && endedText Ascii (kindOf b)
+    && endedText Digits (part 40 21 b)
+    && zeros (part 61 3 b)
+
+-- an unused record is all zero
+unfoldable pub usedOk : List ℕ → Bool
+usedOk b = not (zeros b) && bookOk b
+
+-- names and addresses compare octet for octet, spaces included
+unfoldable pub sameName : List ℕ → List ℕ → Bool
+sameName a b = same a b
+
+unfoldable pub sameAddress : List ℕ → List ℕ → Bool
+sameAddress a b = same a b
+
+-- a used, well-formed record with equal system_id and system_type
+unfoldable pub named : List ℕ → List ℕ → List ℕ → Bool
+named system kind b = usedOk b && sameName (textOf (systemOf b)) system && sameName (textOf (kindOf b)) kind
+
+unfoldable pub passwordIs : List ℕ → List ℕ → Bool
+passwordIs password b = same (textOf (passwordOf b)) password
+
+-- the book has eight records, one behind the other
+abbrev pub bookRecord : ℕ → List ℕ → List ℕ
+bookRecord a book = part (bookRecordSize * a) bookRecordSize book
+
+abbrev pub bookSize : ℕ
+bookSize = 512

@@ -1,0 +1,3 @@
+// One record: of the account book, and of a message.
+pub mod book;
+pub mod record;

@@ -1,0 +1,90 @@
+// The test of one message record.
+use forms::field;
+use forms::text::Form;
+ghost use mathlib.Core.Path.{_≡_};
+ghost use lib.ListN.{length};
+ghost use Rattle.forms.specs.Class.{within};
+ghost use Rattle.records.specs.Layout.{recordSize};
+ghost use Rattle.records.specs.Record.{addressOk, timeOk, textOk, fieldsOk, endOk, messageOk, recordOk};
+
+fn is_within(low: u32, high: u32, x: u32) -> bool
+    ensures { λ r. ⌜ r ≡ within low high x ⌝ }
+{
+    (low <= x) & (x <= high)
+}
+
+fn is_time_ok(t: &[u8]) -> bool
+    ensures { λ r. ⌜ r ≡ timeOk (now (t .entry)) ⌝ }
+{
+    octets::stretch::all_zero(t) | forms::time::is_stored_time(t)
+}
+
+fn is_address_ok(address: &[u8]) -> bool
+    requires { ⌜ length (now address) ≡ 22 ⌝ }
+    ensures { λ r. ⌜ r ≡ addressOk (now (address .entry)) ⌝ }
+{
+    field::is_field(&address[2..22], Form::Address)
+}
+
+fn is_text_ok(r: &[u8]) -> bool
+    requires { ⌜ length (now r) ≡ recordSize ⌝ }
+    ensures { λ ok. ⌜ ok ≡ textOk (now (r .entry)) ⌝ }
+{
+    let default = r[91];
+    let size = r[92];
+    let unused = octets::stretch::from(&r[93..233], size as usize);
+    (default <= 100)
+        & (size <= 140)
+        & ((size == 0) | (default == 0))
+        & octets::stretch::all_zero(unused)
+}
+
+fn are_fields_ok(r: &[u8]) -> bool
+    requires { ⌜ length (now r) ≡ recordSize ⌝ }
+    ensures { λ ok. ⌜ ok ≡ fieldsOk (now (r .entry)) ⌝ }
+{
+    is_address_ok(&r[5..27])
+        & is_address_ok(&r[27..49])
+        & field::is_field(&r[49..54], Form::Ascii)
+        & (r[56] <= 1)
+        & is_time_ok(&r[57..73])
+        & is_time_ok(&r[73..89])
+        & (r[89] <= 1)
+        & is_text_ok(r)
+}
+
+fn is_end_ok(r: &[u8]) -> bool
+    requires { ⌜ length (now r) ≡ recordSize ⌝ }
+    ensures { λ ok. ⌜ ok ≡ endOk (now (r .entry)) ⌝ }
+{
+    let state = r[0];
+    let error_fits = (r[249] == 0) | !((state == 1) | (state == 4));
+    if state == 1 {
+        octets::stretch::all_zero(&r[233..249]) & error_fits
+    } else {
+        forms::time::is_stored_time(&r[233..249]) & error_fits
+    }
+}
+
+fn is_message_ok(last: u32, r: &[u8]) -> bool
+    requires { ⌜ length (now r) ≡ recordSize ⌝ }
+    ensures { λ ok. ⌜ ok ≡ messageOk last (now (r .entry)) ⌝ }
+{
+    is_within(1, 5, octets::number::wide(r[0]))
+        & is_within(1, last, octets::number::number_at(r, 1))
+        & are_fields_ok(r)
+        & is_end_ok(r)
+        & octets::stretch::all_zero(&r[250..256])
+}
+
+// The state octet tells which of the two a record has to be.
+pub fn is_record_ok(last: u32, r: &[u8]) -> bool
+    requires { ⌜ length (now r) ≡ recordSize ⌝ }
+    ensures { λ ok. ⌜ ok ≡ recordOk last (now (r .entry)) ⌝ }
+{
+    if r[0] == 0 {
+        octets::stretch::all_zero(r)
+    } else {
+        is_message_ok(last, r)
+    }
+}
