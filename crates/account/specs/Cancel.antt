@@ -14,7 +14,7 @@ use Rattle.records.specs.Book.{sameAddress}
 use Rattle.store.specs.Places.{recordAt, onPlace, onPlaces, onFound}
 use Rattle.store.specs.Search.{waiting, between, placeOf, pairPlace}
 use Rattle.changes.specs.Change.{finished}
-use Rattle.account.specs.Source.{noAddress, sourceFor}
+use Rattle.source.specs.Source.{noAddress, sourceFor}
 
 -- a status, and the account's part afterwards
 pub record Changed : Type 0 where

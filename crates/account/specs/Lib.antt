@@ -1,5 +1,3 @@
-pub mod Source
-pub mod Submit
 pub mod Query
 pub mod Cancel
 pub mod Replace

@@ -12,7 +12,7 @@ use Rattle.records.specs.Book.{sameAddress}
 use Rattle.store.specs.Places.{recordAt, onFound}
 use Rattle.store.specs.declared.places.Found.{Found}
 use Rattle.store.specs.declared.places.Found.the-variants.{At, Nowhere}
-use Rattle.account.specs.Source.{sourceFor, known}
+use Rattle.source.specs.Source.{sourceFor, known}
 use Rattle.account.specs.declared.query.Asked.{Asked}
 
 -- the status, and the place of the record asked for

@@ -14,7 +14,7 @@ use Rattle.store.specs.Places.{recordAt, onPlace, onFound}
 use Rattle.store.specs.Search.{waiting}
 use Rattle.changes.specs.Change.{corrected}
 use Rattle.changes.specs.declared.Correction.{Correction}
-use Rattle.account.specs.Source.{sourceFor, known}
+use Rattle.source.specs.Source.{sourceFor, known}
 use Rattle.account.specs.Cancel.{Changed, changed}
 
 abbrev pub correctionOf : Replace → Correction

@@ -1,5 +1,4 @@
 // cancel_sm: one message by its id, or all that wait between two addresses.
-use crate::source;
 use forms::text::MessageId;
 use store::places::Found;
 use wire::fields::Address;

@@ -1,5 +1,4 @@
 // query_sm.
-use crate::source;
 use requests::query::Query;
 use store::places::Found;
 use wire::status;

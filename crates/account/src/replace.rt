@@ -1,5 +1,4 @@
 // replace_sm.
-use crate::source;
 use changes::Correction;
 use requests::replace::Replace;
 use store::places::Found;

@@ -17,7 +17,7 @@ use Rattle.requests.specs.Plain.{plainOf}
 use Rattle.records.specs.Layout.{stateOf, idOf, dateOf, errorOf}
 use Rattle.store.specs.Places.{recordAt, onFound}
 use Rattle.store.specs.Account.{accountOk}
-use Rattle.account.specs.Submit.{submitted}
+use Rattle.submit.specs.Submit.{submitted}
 use Rattle.account.specs.Query.{queried}
 use Rattle.account.specs.Cancel.{Changed, cancelled}
 use Rattle.account.specs.Replace.{replaced}

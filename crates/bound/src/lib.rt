@@ -1,9 +1,9 @@
 // Octets on a bound session: what is asked of one account, of which its book record, its part of the table and its last id are at hand.
 use answers::fixed;
-use answers::number;
 use answers::reply;
 use forms::text::MessageId;
 use requests::plain;
+use session::number;
 use store::places::Found;
 use wire::frame;
 use wire::frame::Frame;
@@ -72,7 +72,7 @@ fn submit_turn(
         let written = fixed::no_submission(space, sequence);
         return spoken(consumed, written, last);
     }
-    let given = account::submit::submit(book, part, last, body);
+    let given = submit::submit(book, part, last, body);
     let id = given.id;
     let written = reply::submit(space, given.status, sequence, id);
     spoken(consumed, written, given.last)

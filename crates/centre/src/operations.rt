@@ -1,6 +1,7 @@
 // Reporting an outcome and picking the next message to send.
-use answers::number;
+use crate::sizes;
 use session::State;
+use session::number;
 use store::places::Found;
 ghost use mathlib.Core.Path.{_≡_};
 ghost use Prim.Native.Nat.{_<_, _≤_};
@@ -17,7 +18,7 @@ ghost use Rattle.centre.specs.Pick.{placed, PlacedInside, located, Locat
 fn check_outcome(book: usize, table: usize, stamp: &[u8]) -> u8
     ensures { λ r. ⌜ (r ≡ outcomeEarly book table (now (stamp .entry))) × (r ≡ 0 → Stamped book table (now (stamp .entry))) ⌝ }
 {
-    if (book != 512) | (table != 32768) {
+    if sizes::is_wrong(book, table) {
         return number::WRONG_SIZE;
     }
     if !forms::time::is_sent_time(stamp) {
@@ -116,7 +117,7 @@ pub enum Located {
 fn check_pick(book: usize, table: usize) -> u8
     ensures { λ r. ⌜ (r ≡ pickEarly book table) × (r ≡ 0 → Sized book table) ⌝ }
 {
-    if (book != 512) | (table != 32768) {
+    if sizes::is_wrong(book, table) {
         number::WRONG_SIZE
     } else {
         number::DONE

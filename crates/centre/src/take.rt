@@ -1,7 +1,8 @@
 // Taking octets on a session.
-use answers::number;
+use crate::sizes;
 use session::Entry;
 use session::State;
+use session::number;
 ghost use mathlib.Core.Path.{_≡_};
 ghost use Prim.Native.Nat.{ℕ, _<_, _≤_};
 ghost use mathlib.Core.List.{List};
@@ -38,7 +39,7 @@ fn refuse(number: u8, state: State) -> Taken
 fn check(book: usize, table: usize, stamp: &[u8], space: usize) -> u8
     ensures { λ r. ⌜ (r ≡ octetsEarly book table (now (stamp .entry)) space) × (r ≡ 0 → Fit book table (now (stamp .entry)) space) ⌝ }
 {
-    if (book != 512) | (table != 32768) {
+    if sizes::is_wrong(book, table) {
         return number::WRONG_SIZE;
     }
     if space < 44 {

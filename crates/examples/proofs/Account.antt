@@ -23,8 +23,8 @@ use Rattle.store.specs.Account.{apart, placesOk, accountOk}
 use Rattle.changes.specs.Change.{newRecord, finished, retexted, corrected}
 use Rattle.store.specs.declared.places.Found.{Found}
 use Rattle.store.specs.declared.places.Found.the-variants.{At, Nowhere}
-use Rattle.account.specs.Source.{sourceFor, known}
-use Rattle.account.specs.Submit.{added, stored, submitted}
+use Rattle.source.specs.Source.{sourceFor, known}
+use Rattle.submit.specs.Submit.{added, stored, submitted}
 use Rattle.account.specs.Cancel.{Changed, cancellable, cancelledOne, deletedIf, cancelledAll, cancelled}
 use Rattle.account.specs.Replace.{replacedIn, replaced}
 use Rattle.account.specs.Query.{lookedUp, queried}

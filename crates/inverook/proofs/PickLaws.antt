@@ -7,10 +7,10 @@ use Prim.Native.Nat.{ℕ, _*_, _<_}
 use native.Mathlib.Omega.{arith}
 use lib.Dec.{ltb, eqb}
 use lib.ListN.{length}
-use borrow.Author.Tests.{eqb-true, eqb-false, ltb-true, not-false}
+use borrow.Author.Tests.{eqb-true, eqb-false, ltb-true}
 use Rattle.octets.specs.Choice.{if_then_else_}
 use Rattle.octets.specs.Stretch.{part}
-use Rattle.octets.proofs.StretchLaws.{if-cases, or-right, part-part}
+use Rattle.octets.proofs.StretchLaws.{if-cases, part-part}
 use Rattle.records.specs.Layout.{recordSize, places}
 use Rattle.records.specs.Book.{bookRecord}
 use Rattle.store.specs.Places.{recordAt, OnePlace, onFound}
@@ -27,6 +27,7 @@ use Rattle.answers.specs.Answer.{Answer, picked, refusedPick, numberOf, pickedR
 use Rattle.bound.specs.Bound.{keeping}
 use Rattle.centre.specs.Operations.{onPick}
 use Rattle.centre.specs.Centre.{wrongSizes, pickEarly, act, step, world}
+use Rattle.centre.proofs.SizeLaws.{table-fits}
 use Rattle.inverook.specs.Calls.{startOf, pickedAt}
 
 pub record Inside (account table : ℕ) : Type 0 where
@@ -36,9 +37,7 @@ pub record Inside (account table : ℕ) : Type 0 where
 table-size : (book table : ℕ) → pickEarly book table ≡ 0 → table ≡ tableSize
 unfolding pickEarly
 table-size book table =
-    if-cases (λ (n : ℕ). n ≡ 0 → table ≡ tableSize) (wrongSizes book table) 3 0
-    (λ h e. absurd (omega (arith, e)))
-    (λ h e. eqb-true table 32768 (not-false _ (or-right (not (eqb book 512)) (not (eqb table 32768)) h)))
+    if-cases (λ (n : ℕ). n ≡ 0 → table ≡ tableSize) (wrongSizes book table) 3 0 (λ h e. absurd (omega (arith, e))) (λ h e. table-fits book table h)
 
 pub pick-inside :
     (book : List ℕ) (st : State) (table : List ℕ) (a : ℕ) →

@@ -1,9 +1,9 @@
 // Octets on an open session: it has no account, and no table is at hand.
 use answers::fixed;
-use answers::number;
 use answers::reply;
 use requests::plain;
 use session::Entry;
+use session::number;
 use store::places::Found;
 use wire::fields;
 use wire::frame;

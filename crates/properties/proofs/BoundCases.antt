@@ -11,7 +11,7 @@ use Rattle.wire.specs.declared.frame.Frame.{Frame}
 use Rattle.wire.specs.declared.frame.Frame.the-variants.{More, Malformed, Whole}
 use Rattle.store.specs.Account.{accountOk}
 use Rattle.store.specs.Places.{recordAt}
-use Rattle.account.specs.Submit.{submitted}
+use Rattle.submit.specs.Submit.{submitted}
 use Rattle.account.specs.Query.{queried}
 use Rattle.account.specs.Cancel.{cancelled}
 use Rattle.account.specs.Replace.{replaced}

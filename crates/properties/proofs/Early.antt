@@ -4,14 +4,15 @@ use native.Mathlib.Omega.{arith}
 use mathlib.Core.Path.{_≡_}
 use mathlib.Core.Bool.{true, false, not}
 use mathlib.Core.List.{List}
-use lib.Dec.{ltb, eqb}
-use borrow.Author.Tests.{ltb-false, eqb-true, not-false}
-use Rattle.octets.proofs.StretchLaws.{or-left, or-right, if-cases}
+use lib.Dec.{ltb}
+use borrow.Author.Tests.{ltb-false, not-false}
+use Rattle.octets.proofs.StretchLaws.{if-cases}
 use Rattle.forms.specs.Time.{sentTime}
 use Rattle.answers.specs.Reply.{spaceNeeded}
 use Rattle.records.specs.Book.{bookSize}
 use Rattle.isolation.specs.Platform.{tableSize}
 use Rattle.centre.specs.Centre.{wrongSizes, octetsEarly, outcomeEarly, pickEarly}
+use Rattle.centre.proofs.SizeLaws.{book-fits, table-fits}
 
 module _ (book table : ℕ) where
   -- the sizes are right
@@ -19,10 +20,7 @@ module _ (book table : ℕ) where
   Sizes = (book ≡ bookSize) × (table ≡ tableSize)
 
   right-sizes : wrongSizes book table ≡ false → Sizes
-  right-sizes h = (
-    eqb-true book bookSize (not-false (eqb book bookSize) (or-left (not (eqb book bookSize)) (not (eqb table tableSize)) h)),
-    eqb-true table tableSize (not-false (eqb table tableSize) (or-right (not (eqb book bookSize)) (not (eqb table tableSize)) h)),
-  )
+  right-sizes h = (book-fits book table h, table-fits book table h)
 
   pub early-octets : (stamp : List ℕ) (space : ℕ) → octetsEarly book table stamp space ≡ 0 → Sizes × (spaceNeeded ≤ space) × (sentTime stamp ≡ true)
   unfolding octetsEarly

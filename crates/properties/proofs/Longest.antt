@@ -17,7 +17,7 @@ use Rattle.forms.specs.declared.text.MessageId.the-variants.{Empty, Number}
 use Rattle.records.specs.Layout.{stateOf, idOf, dateOf, errorOf}
 use Rattle.store.specs.Places.{recordAt}
 use Rattle.account.specs.Query.{queried}
-use Rattle.account.specs.Submit.{submitted}
+use Rattle.submit.specs.Submit.{submitted}
 use Rattle.session.specs.State.{entryAt}
 use Rattle.session.specs.declared.Entry.{Entry}
 use Rattle.session.specs.declared.Entry.the-variants.{Closed, Open, Transmitter, Receiver, Ended}

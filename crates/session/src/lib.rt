@@ -1,4 +1,6 @@
 // The state: sixteen sessions and eight last-issued ids. It goes in by value and comes back.
+pub mod number;
+
 ghost use mathlib.Core.Path.{_≡_};
 ghost use Prim.Native.Nat.{_<_};
 ghost use Rattle.session.specs.State.{sessionCount, accountCount, fresh, entryAt, lastAt, opened, closed, bound, ended, issued};
@@ -28,12 +30,6 @@ pub struct Moved {
 }
 
 pub const SESSIONS: usize = 16;
-
-pub const DONE: u8 = 0;
-
-pub const NO_SESSION: u8 = 2;
-
-pub const NOT_OPEN: u8 = 6;
 
 impl State {
     // All sessions closed, all last ids 0.
@@ -95,7 +91,7 @@ impl State {
     {
         if SESSIONS <= session {
             return Moved {
-                number: NO_SESSION,
+                number: number::NO_SESSION,
                 state: self,
             };
         }
@@ -104,24 +100,24 @@ impl State {
             Entry::Closed => {
                 let state = self.bind(session, Entry::Open);
                 Moved {
-                    number: DONE,
+                    number: number::DONE,
                     state,
                 }
             }
             Entry::Open => Moved {
-                number: NOT_OPEN,
+                number: number::NOT_OPEN,
                 state: self,
             },
             Entry::Transmitter(_) => Moved {
-                number: NOT_OPEN,
+                number: number::NOT_OPEN,
                 state: self,
             },
             Entry::Receiver(_) => Moved {
-                number: NOT_OPEN,
+                number: number::NOT_OPEN,
                 state: self,
             },
             Entry::Ended => Moved {
-                number: NOT_OPEN,
+                number: number::NOT_OPEN,
                 state: self,
             },
         }
@@ -133,13 +129,13 @@ impl State {
     {
         if SESSIONS <= session {
             return Moved {
-                number: NO_SESSION,
+                number: number::NO_SESSION,
                 state: self,
             };
         }
         let state = self.bind(session, Entry::Closed);
         Moved {
-            number: DONE,
+            number: number::DONE,
             state,
         }
     }

@@ -24,8 +24,8 @@ use Rattle.store.specs.Places as Places
 use Rattle.store.specs.Places.{keep, lowest, onPlaces}
 use Rattle.records.specs.Record.{textOk, fieldsOk, endOk, messageOk, recordOk}
 use Rattle.store.specs.Search.{orElse}
-use Rattle.account.specs.Source.{sourceFor, known}
-use Rattle.account.specs.Submit.{added, stored, submitted}
+use Rattle.source.specs.Source.{sourceFor, known}
+use Rattle.submit.specs.Submit.{added, stored, submitted}
 use Rattle.account.specs.Query.{lookedUp, queried}
 use Rattle.account.specs.Cancel.{cancellable, cancelledOne, deletedIf, cancelledAll, cancelled}
 use Rattle.account.specs.Replace.{replacedIn, replaced}

@@ -23,8 +23,8 @@ use Rattle.changes.specs.Change.{finished, retexted, corrected}
 use Rattle.store.specs.Account.{accountOk}
 use Rattle.store.specs.declared.places.Found.{Found}
 use Rattle.store.specs.declared.places.Found.the-variants.{At, Nowhere}
-use Rattle.account.specs.Source.{noAddress, known}
-use Rattle.account.specs.Submit.{Submitted, submitted, toReplace}
+use Rattle.source.specs.Source.{noAddress, known}
+use Rattle.submit.specs.Submit.{Submitted, submitted, toReplace}
 use Rattle.account.specs.Cancel.{Changed, deleted, deletedIf, cancellable, cancelled}
 use Rattle.account.specs.Replace.{correctionOf, replaced}
 use Rattle.account.specs.Outcome.{reported}

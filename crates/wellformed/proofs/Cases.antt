@@ -19,8 +19,8 @@ use Rattle.store.specs.Places.{recordAt, onPlaces, onFound}
 use Rattle.store.specs.Search.{waiting, placeOf, pairPlace, newPlace}
 use Rattle.store.specs.declared.places.Found.{Found}
 use Rattle.store.specs.declared.places.Found.the-variants.{At, Nowhere}
-use Rattle.account.specs.Source.{noAddress, known}
-use Rattle.account.specs.Submit.{Submitted, refused, submitted, stored, added, toReplace}
+use Rattle.source.specs.Source.{noAddress, known}
+use Rattle.submit.specs.Submit.{Submitted, refused, submitted, stored, added, toReplace}
 use Rattle.account.specs.Cancel.{Changed, changed, deletedIf, cancellable, cancelledBy, cancelledOne, cancelledAll, cancelled}
 use Rattle.account.specs.Replace.{replaced, replacedIn}
 use Rattle.account.specs.Outcome.{reported}

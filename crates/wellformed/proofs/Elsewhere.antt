@@ -15,8 +15,8 @@ use Rattle.store.specs.Search.{waiting, between, placeOf, newPlace}
 use Rattle.changes.specs.Change.{finished, retexted, corrected}
 use Rattle.store.specs.declared.places.Found.{Found}
 use Rattle.store.specs.declared.places.Found.the-variants.{At}
-use Rattle.account.specs.Source.{known}
-use Rattle.account.specs.Submit.{Submitted, submitted, toReplace}
+use Rattle.source.specs.Source.{known}
+use Rattle.submit.specs.Submit.{Submitted, submitted, toReplace}
 use Rattle.account.specs.Cancel.{Changed, deleted, deletedIf, cancelled}
 use Rattle.account.specs.Replace.{correctionOf, replaced}
 use Rattle.account.specs.Outcome.{reported}

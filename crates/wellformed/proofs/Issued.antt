@@ -13,7 +13,7 @@ use Rattle.store.specs.Search.{isEmpty, hasId, placeOf}
 use Rattle.store.specs.Account.{accountOk}
 use Rattle.store.specs.declared.places.Found.{Found}
 use Rattle.store.specs.declared.places.Found.the-variants.{At, Nowhere}
-use Rattle.account.specs.Submit.{Submitted, submitted}
+use Rattle.submit.specs.Submit.{Submitted, submitted}
 use Rattle.wellformed.proofs.Cases.{submitted-cases}
 use Rattle.wellformed.proofs.Lowest.{found-place, found-passes}
 use Rattle.wellformed.proofs.GoodPartIs.{account-good}

@@ -6,7 +6,7 @@ use lib.ListN.{length}
 use Rattle.octets.proofs.PatchLaws.{patch-length}
 use Rattle.records.specs.Layout.{recordSize}
 use Rattle.store.specs.Places.{recordAt, onPlace, onPlaces}
-use Rattle.account.specs.Submit.{Submitted, submitted}
+use Rattle.submit.specs.Submit.{Submitted, submitted}
 use Rattle.account.specs.Cancel.{Changed, cancelled}
 use Rattle.account.specs.Replace.{replaced}
 use Rattle.account.specs.Outcome.{reported}

@@ -2,7 +2,7 @@
 use mathlib.Core.Path.{_≡_, refl}
 use mathlib.Core.List.{List}
 use Prim.Native.Nat.{ℕ}
-use Rattle.account.specs.Submit.{Submitted, submitted}
+use Rattle.submit.specs.Submit.{Submitted, submitted}
 use Rattle.account.specs.Cancel.{Changed, cancelled}
 use Rattle.account.specs.Replace.{replaced}
 use Rattle.account.specs.Outcome.{reported}

@@ -20,7 +20,7 @@ use Rattle.forms.specs.declared.text.Form.the-variants.{Ascii, Digits, Address,
 use Rattle.forms.proofs.ClassLaws.{lead-within, within-low}
 use Rattle.records.specs.Record.{addressOk}
 use Rattle.records.specs.Book.{bookRecordSize, systemOf, passwordOf, kindOf, callbackOf, endedText, bookOk, usedOk}
-use Rattle.account.specs.Source.{noAddress, sourceFor}
+use Rattle.source.specs.Source.{noAddress, sourceFor}
 use Rattle.wellformed.specs.Rules.{Addressed}
 use Rattle.wellformed.proofs.GoodIs.{both, or-second}
 use Rattle.wellformed.proofs.TextFields.{lead-append}

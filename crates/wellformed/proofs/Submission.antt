@@ -10,8 +10,8 @@ use Rattle.wire.specs.Fields.{octetsOf}
 use Rattle.forms.specs.declared.text.Form.the-variants.{Ascii}
 use Rattle.records.specs.Layout.{recordSize, stateOf, idOf}
 use Rattle.records.specs.Book.{bookRecordSize, usedOk}
-use Rattle.account.specs.Source.{noAddress}
-use Rattle.account.specs.Submit.{fieldsOf}
+use Rattle.source.specs.Source.{noAddress}
+use Rattle.submit.specs.Submit.{fieldsOf}
 use Rattle.wire.specs.declared.fields.Span.{Span}
 use Rattle.wellformed.specs.Effects.{submission, submitter, submittedRecord}
 use Rattle.wellformed.specs.Good.{Good, GoodFields}

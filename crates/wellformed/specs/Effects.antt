@@ -12,8 +12,8 @@ use Rattle.requests.specs.declared.replace.Replace.{Replace}
 use Rattle.records.specs.Layout.{places, idOf}
 use Rattle.store.specs.Places.{recordAt, onPlace, onPlaces}
 use Rattle.changes.specs.Change.{newRecord, retexted, corrected, finished}
-use Rattle.account.specs.Source.{sourceFor}
-use Rattle.account.specs.Submit.{Submitted, fieldsOf}
+use Rattle.source.specs.Source.{sourceFor}
+use Rattle.submit.specs.Submit.{Submitted, fieldsOf}
 use Rattle.account.specs.Cancel.{Changed, changed, deleted, deletedIf}
 use Rattle.account.specs.Replace.{correctionOf}
 

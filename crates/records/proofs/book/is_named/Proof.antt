@@ -1,11 +1,18 @@
 -- `records::book::is_named` meets its contract. Assumes nothing.
-use Rattle.records.specs.Book.{named}
+use mathlib.Core.Path.{_≡_, sym, ap, _∙_}
+use mathlib.Core.Bool.{Bool, true, false, _&&_}
+use Rattle.octets.proofs.StretchLaws.{and-assoc, and-true, and-false}
+use Rattle.records.specs.Book.{usedOk, named}
 use borrow.Author.Needs.{needs}
 use Rattle.records.proofs.book.is_named.Statement.{statement}
 use Rattle.records.proofs.book.is_named.Tie as tie
 
-is-used-ok-requires : tie.Need-is-used-ok-requires
-is-used-ok-requires c κs = search needs
+-- a conjunction of three, of which the last two are known
+last-of-three : (a b c : Bool) → (b && c) ≡ true → a ≡ ((a && b) && c)
+last-of-three a b c h = sym (and-assoc a b c ∙ (ap (λ (x : Bool). a && x) h ∙ and-true a))
+
+none-of-three : (a b c : Bool) → (b && c) ≡ false → false ≡ ((a && b) && c)
+none-of-three a b c h = sym (and-assoc a b c ∙ (ap (λ (x : Bool). a && x) h ∙ and-false a))
 
 sub-text-of : tie.Need-sub-text-of
 sub-text-of c = search needs
@@ -37,15 +44,25 @@ text-of-requires-2 c κs = search needs
 is-same-name-requires-2 : tie.Need-is-same-name-requires-2
 is-same-name-requires-2 c κs = search needs
 
+is-used-ok-requires : tie.Need-is-used-ok-requires
+is-used-ok-requires c κs = search needs
+
 returns : tie.Need-returns
 unfolding named
-returns c = rw (← (c .before .before .before .before .text-of .ensures), ← (c .before .text-of2 .ensures), c .is-same-name2 .ensures, c .before .before .before .is-same-name .ensures, c .before .before .before .before .before .before .is-used-ok .ensures)
+returns c =
+    rw (c .is-used-ok .ensures, ← (c .before .before .before .before .before .before .text-of .ensures), ← (c .before .before .before .text-of2 .ensures))
+    (last-of-three _ _ _ (rw (c .before .before .before .before .before .is-same-name .ensures, c .before .before .is-same-name2 .ensures) at (c .before .if1 .taken)))
+
+returns-2 : tie.Need-returns-2
+unfolding named
+returns-2 c =
+    rw (← (c .before .before .before .before .before .text-of .ensures), ← (c .before .before .text-of2 .ensures))
+    (none-of-three (usedOk (c .before .before .before .before .before .before .before .before .before .before .args .b .now)) _ _ (rw (c .before .before .before .before .is-same-name .ensures, c .before .is-same-name2 .ensures) at (c .if1 .left)))
 
 pub is-named-spec : {M : Type 1} → statement M
 is-named-spec =
     tie.close
     (tie.spec
-    is-used-ok-requires
     sub-text-of
     part-text-of-start
     part-text-of-end
@@ -56,4 +73,6 @@ is-named-spec =
     part-text-of-end-2
     text-of-requires-2
     is-same-name-requires-2
-    returns)
+    is-used-ok-requires
+    returns
+    returns-2)

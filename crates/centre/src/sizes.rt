@@ -1,0 +1,9 @@
+// The sizes of what is lent.
+ghost use mathlib.Core.Path.{_≡_};
+ghost use Rattle.centre.specs.Centre.{wrongSizes};
+
+pub fn is_wrong(book: usize, table: usize) -> bool
+    ensures { λ r. ⌜ r ≡ wrongSizes book table ⌝ }
+{
+    (book != 512) | (table != 32768)
+}
