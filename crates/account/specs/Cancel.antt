@@ -8,7 +8,6 @@ use Rattle.forms.specs.declared.text.MessageId.{MessageId}
 use Rattle.forms.specs.declared.text.MessageId.the-variants.{Empty, Number}
 use Rattle.wire.specs.Status.{invalidDestination, invalidMessageId, cannotCancel}
 use Rattle.requests.specs.Cancel.{cancelOf}
-use Rattle.requests.specs.declared.cancel.Cancel.{Cancel}
 use Rattle.records.specs.Layout.{places, sourceOf, destinationOf}
 use Rattle.records.specs.Book.{sameAddress}
 use Rattle.store.specs.Places.{recordAt, onPlace, onPlaces, onFound}

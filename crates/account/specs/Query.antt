@@ -10,7 +10,6 @@ use Rattle.requests.specs.declared.query.Query.{Query}
 use Rattle.records.specs.Layout.{sourceOf}
 use Rattle.records.specs.Book.{sameAddress}
 use Rattle.store.specs.Places.{recordAt, onFound}
-use Rattle.store.specs.declared.places.Found.{Found}
 use Rattle.store.specs.declared.places.Found.the-variants.{At, Nowhere}
 use Rattle.source.specs.Source.{sourceFor, known}
 use Rattle.account.specs.declared.query.Asked.{Asked}

@@ -1,12 +1,11 @@
 // cancel_sm: one message by its id, or all that wait between two addresses.
 use forms::text::MessageId;
 use store::places::Found;
-use wire::fields::Address;
 use wire::status;
 ghost use mathlib.Core.Path.{_≡_};
 ghost use Prim.Native.Nat.{_<_};
 ghost use lib.ListN.{length};
-ghost use Rattle.records.specs.Layout.{recordSize, places, partSize};
+ghost use Rattle.records.specs.Layout.{places, partSize};
 ghost use Rattle.records.specs.Book.{bookRecordSize};
 ghost use Rattle.store.specs.Places.{recordAt, onPlace, onPlaces};
 ghost use Rattle.account.specs.Cancel.{changed, cancellable, cancelledOne, deletedIf, cancelledAll, cancelledBy, cancelled};

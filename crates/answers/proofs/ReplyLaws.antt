@@ -1,13 +1,12 @@
 -- A reply's pieces, put into the space one after the other, are the reply. Assumes nothing.
 use mathlib.Core.Path.{_≡_, refl, sym, ap, _∙_}
-use mathlib.Core.List.{List, [], _∷_, _++_, append-assoc}
+use mathlib.Core.List.{List, [], _++_, append-assoc}
 use Prim.Native.Nat.{ℕ, _+_, _≤_}
 use native.Mathlib.Omega.{arith}
 use native.Mathlib.Nat.{add-assoc}
-use lib.ListN.{length, drop, length-append}
+use lib.ListN.{length, length-append}
 use Rattle.octets.specs.Stretch.{patch}
 use Rattle.octets.specs.Number.{octets4, hex8}
-use Rattle.octets.proofs.NumberLaws.{octets4-length}
 use Rattle.octets.proofs.PatchLaws.{patch-next, patch-behind, patch-front, patch-nothing}
 use Rattle.forms.specs.declared.text.MessageId.{MessageId}
 use Rattle.forms.specs.declared.text.MessageId.the-variants.{Empty, Number}

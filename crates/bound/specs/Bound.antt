@@ -3,13 +3,14 @@
 use Prim.Native.Nat.{ℕ, _-_}
 use mathlib.Core.Bool.{Bool, true, false}
 use mathlib.Core.List.{List}
-use lib.Dec.{leb, eqb}
+use lib.Dec.{eqb}
 use lib.ListN.{length, take, drop}
 use Rattle.octets.specs.Choice.{if_then_else_}
 use Rattle.forms.specs.declared.text.MessageId.the-variants.{Empty, Number}
 use Rattle.forms.specs.Field.{textOf}
 use Rattle.wire.specs.Status.{invalidCommandId, invalidBindStatus, alreadyBound}
 use Rattle.wire.specs.Frame.{frameOf, headerOf}
+use Rattle.wire.specs.Command.{Command, BindReceiver, BindTransmitter, QuerySm, SubmitSm, Unbind, ReplaceSm, CancelSm, EnquireLink, Response, Unknown, commandOf}
 use Rattle.answers.specs.Reply.{genericNak, noBody, bindBody, submitBody, queryBody, noQuery}
 use Rattle.wire.specs.declared.frame.Frame.{Frame}
 use Rattle.wire.specs.declared.frame.Frame.the-variants.{More, Malformed, Whole}
@@ -25,7 +26,7 @@ use Rattle.session.specs.declared.Entry.{Entry}
 use Rattle.session.specs.declared.Entry.the-variants.{Closed, Open, Transmitter, Receiver, Ended}
 use Rattle.isolation.specs.Platform.{Effect}
 use Rattle.bound.specs.declared.Acted.{Acted}
-use Rattle.answers.specs.Answer.{Octets, Answer, taken, refusedOctets, repliedTo, silent, nakLength, bindReceiver, bindTransmitter, querySm, submitSm, unbind, replaceSm, cancelSm, enquireLink, firstResponse}
+use Rattle.answers.specs.Answer.{Octets, Answer, taken, refusedOctets, repliedTo, silent, nakLength}
 
 -- ---- what a request gives: status, reply body, the account's part and last id, and whether the session ends
 
@@ -89,23 +90,22 @@ abbrev pub keeping : Answer → List ℕ → ℕ → Effect Answer
 keeping answer part last = record { answer = answer; part = part; last = last; ends = false }
 
 -- the binds need open, else 5
-unfoldable pub boundCommand : Bool → List ℕ → List ℕ → ℕ → ℕ → ℕ → List ℕ → List ℕ → List ℕ → ℕ → Effect Answer
-boundCommand transmitter book stamp n command sequence body space part last =
-    if eqb command bindReceiver then replying n 0x80000001 sequence (refusing alreadyBound bindBody part last) space
-    else if eqb command bindTransmitter then replying n 0x80000002 sequence (refusing alreadyBound bindBody part last) space
-    else if eqb command querySm then replying n 0x80000003 sequence (queryTurn transmitter book body part last) space
-    else if eqb command submitSm then replying n 0x80000004 sequence (submitTurn transmitter book body part last) space
-    else if eqb command unbind then replying n 0x80000006 sequence (unbindTurn body part last) space
-    else if eqb command replaceSm then replying n 0x80000007 sequence (replaceTurn transmitter book body part last) space
-    else if eqb command cancelSm then replying n 0x80000008 sequence (cancelTurn transmitter book stamp body part last) space
-    else if eqb command enquireLink then replying n 0x80000015 sequence (refusing (plainOf body) noBody part last) space
-    else if leb firstResponse command then keeping (silent n space) part last
-    else replying n genericNak sequence (refusing invalidCommandId noBody part last) space
+abbrev pub boundCommand : Bool → List ℕ → List ℕ → ℕ → ℕ → List ℕ → List ℕ → List ℕ → ℕ → Command → Effect Answer
+boundCommand transmitter book stamp n sequence body space part last BindReceiver = replying n 0x80000001 sequence (refusing alreadyBound bindBody part last) space
+boundCommand transmitter book stamp n sequence body space part last BindTransmitter = replying n 0x80000002 sequence (refusing alreadyBound bindBody part last) space
+boundCommand transmitter book stamp n sequence body space part last QuerySm = replying n 0x80000003 sequence (queryTurn transmitter book body part last) space
+boundCommand transmitter book stamp n sequence body space part last SubmitSm = replying n 0x80000004 sequence (submitTurn transmitter book body part last) space
+boundCommand transmitter book stamp n sequence body space part last Unbind = replying n 0x80000006 sequence (unbindTurn body part last) space
+boundCommand transmitter book stamp n sequence body space part last ReplaceSm = replying n 0x80000007 sequence (replaceTurn transmitter book body part last) space
+boundCommand transmitter book stamp n sequence body space part last CancelSm = replying n 0x80000008 sequence (cancelTurn transmitter book stamp body part last) space
+boundCommand transmitter book stamp n sequence body space part last EnquireLink = replying n 0x80000015 sequence (refusing (plainOf body) noBody part last) space
+boundCommand transmitter book stamp n sequence body space part last Response = keeping (silent n space) part last
+boundCommand transmitter book stamp n sequence body space part last Unknown = replying n genericNak sequence (refusing invalidCommandId noBody part last) space
 
 abbrev pub boundPdu : Bool → List ℕ → List ℕ → List ℕ → List ℕ → List ℕ → ℕ → Effect Answer
 boundPdu transmitter book stamp pdu space part last =
     let h = headerOf pdu in
-    boundCommand transmitter book stamp (length pdu) (h .command) (h .sequence) (drop 16 pdu) space part last
+    boundCommand transmitter book stamp (length pdu) (h .sequence) (drop 16 pdu) space part last (commandOf (h .command))
 
 abbrev pub boundFrame : Bool → List ℕ → List ℕ → List ℕ → List ℕ → Frame → List ℕ → ℕ → Effect Answer
 boundFrame transmitter book octets stamp space More part last = keeping (taken 1 0 0 space) part last

@@ -4,7 +4,7 @@ use session::State;
 use session::number;
 use store::places::Found;
 ghost use mathlib.Core.Path.{_≡_};
-ghost use Prim.Native.Nat.{_<_, _≤_};
+ghost use Prim.Native.Nat.{_<_};
 ghost use lib.ListN.{length};
 ghost use Rattle.records.specs.Layout.{partSize};
 ghost use Rattle.records.specs.Book.{bookRecordSize};

@@ -1,13 +1,13 @@
 -- The pieces of a record, put one after the other, are the record. Assumes nothing.
-use mathlib.Core.Path.{_≡_, refl, sym, ap, _∙_}
+use mathlib.Core.Path.{_≡_, sym, ap, _∙_}
 use mathlib.Core.List.{List, [], _∷_, _++_, append-assoc, append-nil}
 use Prim.Native.Nat.{ℕ, _+_, _-_, _≤_}
 use native.Mathlib.Omega.{arith}
-use native.Mathlib.Nat.{add-assoc, zero-add}
+use native.Mathlib.Nat.{add-assoc}
 use lib.ListN.{length, replicate, length-append, length-replicate}
 use Rattle.octets.specs.Stretch.{patch, padded}
 use Rattle.octets.proofs.PatchLaws.{patch-next, patch-zeros, padded-put, padded-padded}
-use Rattle.changes.specs.Change.{head, terms, message, newRecord}
+use Rattle.changes.specs.Change.{head, terms, message}
 use Rattle.changes.specs.declared.Fields.{Fields}
 
 -- two, three and four pieces, each at the end of the one before

@@ -1,10 +1,8 @@
 -- Laws of texts: their lengths. Assumes nothing.
-use mathlib.Core.Path.{_≡_}
 use mathlib.Core.List.{List}
 use Prim.Native.Nat.{ℕ, _≤_}
 use native.Mathlib.Omega.{arith}
 use lib.ListN.{length, length-drop, length-take}
-use Rattle.forms.specs.Class.{inClass, lead}
 use Rattle.forms.specs.Text.{afterSpaces}
 use Rattle.forms.specs.Field.{textOf}
 

@@ -8,7 +8,7 @@ use lib.Dec.{ltb, leb, eqb}
 use Rattle.octets.specs.Choice.{if_then_else_}
 use Rattle.octets.specs.Stretch.{every}
 use Rattle.octets.specs.Number.{onto}
-use Rattle.forms.specs.Class.{within, decimal, inClass, lead}
+use Rattle.forms.specs.Class.{within, inClass, lead}
 use Rattle.forms.specs.declared.class.Class.the-variants.{Ascii, Space, Decimal, Hexadecimal}
 use Rattle.forms.specs.declared.text.Form.{Form}
 use Rattle.forms.specs.declared.text.Form.the-variants.{Digits, Address, AddressOrNone, MessageIdOrNone}

@@ -5,7 +5,7 @@ ghost use mathlib.Core.Path.{_≡_};
 ghost use Prim.Native.Nat.{_≤_, _<_};
 ghost use lib.ListN.{length};
 ghost use Rattle.forms.specs.Class.{inClass};
-ghost use Rattle.forms.specs.Text.{afterSpaces, given, givenAll, formed, nibble, hexValue, messageId};
+ghost use Rattle.forms.specs.Text.{afterSpaces, givenAll, formed, nibble, hexValue, messageId};
 
 pub enum Form {
     Ascii,

@@ -1,9 +1,8 @@
 // Times: YYMMDDhhmmsstnnp.
 use crate::class;
 ghost use mathlib.Core.Path.{_≡_};
-ghost use Prim.Native.Nat.{_≤_, _<_};
-ghost use Rattle.forms.specs.Class.{within};
-ghost use Rattle.forms.specs.Time.{twoDigits, signed, isTime, sentTime, storedTime};
+ghost use Prim.Native.Nat.{_<_};
+ghost use Rattle.forms.specs.Time.{twoDigits, isTime, sentTime, storedTime};
 
 // Two decimal digits, a number from `low` to `high`.
 fn is_two(a: u8, b: u8, low: u8, high: u8) -> bool

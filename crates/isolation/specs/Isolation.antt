@@ -5,7 +5,7 @@ use mathlib.Core.List.{List, map}
 use lib.ListN.{length}
 use Rattle.session.specs.State.{lastAt}
 use Rattle.isolation.specs.Platform.{partSize, partOf, World, fresh, Step, Request, Machine}
-use Rattle.isolation.specs.History.{Kept, stepOf, after, answersOf, remaining, afterAlone, answersAlone}
+use Rattle.isolation.specs.History.{stepOf, after, answersOf, remaining, afterAlone, answersAlone}
 
 -- two runs show account A the same: its answers in order (response octets among them), its stored records, its last id
 pub record Same {R : Type 0} (A : ℕ) (ls : List R) (w : World) (rs : List R) (v : World) : Type 0 where

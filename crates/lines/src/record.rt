@@ -1,7 +1,7 @@
 // A record of the input: kind, session, length (two octets, high first), stamp 16, payload 512, zeros 12.
 ghost use mathlib.Core.Path.{_≡_};
-ghost use Prim.Native.Nat.{_<_, _≤_};
-ghost use lib.ListN.{length, getD};
+ghost use Prim.Native.Nat.{_<_};
+ghost use lib.ListN.{length};
 ghost use Rattle.lines.specs.Record.{recordSize, lengthOf, orderOf, Readable};
 
 // What a record asks for.

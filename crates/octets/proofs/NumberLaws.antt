@@ -1,10 +1,10 @@
 -- Laws of numbers in octets. Assumes nothing.
-use mathlib.Core.Path.{_≡_, refl, sym, ap, _∙_}
+use mathlib.Core.Path.{_≡_, refl, _∙_}
 use mathlib.Core.List.{List, [], _∷_}
-use Prim.Native.Nat.{ℕ, zero, suc, _+_, _*_, _/_, _%_, _≤_, _<_}
+use Prim.Native.Nat.{ℕ, suc, _+_, _*_, _/_, _%_, _≤_, _<_}
 use native.Mathlib.Omega.{arith}
 use native.Mathlib.Nat.{div-div-eq-div-mul, div-add-mod', mod-eq-of-lt}
-use lib.ListN.{length, take, drop, getD}
+use lib.ListN.{length, getD}
 use lib.Seq.{drop-cons}
 use Rattle.octets.specs.Stretch.{part}
 use Rattle.octets.specs.Number.{onto, number, octets4, hex8}

@@ -3,12 +3,12 @@ use mathlib.Core.Path.{_≡_, refl, sym, ap, _∙_}
 use mathlib.Core.List.{List, [], _∷_}
 use Prim.Native.Nat.{ℕ, zero, suc, _+_, _-_, _*_, _≤_, _<_}
 use native.Mathlib.Omega.{arith}
-use native.Mathlib.Nat.{zero-add, add-zero, mul-suc, mul-zero, sub-zero}
+use native.Mathlib.Nat.{mul-suc, mul-zero, sub-zero}
 use lib.ListN.{length, take, drop, getD, set, length-drop}
-use lib.Seq.{drop-drop, length-take-le}
+use lib.Seq.{drop-drop}
 use Rattle.octets.specs.Stretch.{part, patch}
 use Rattle.octets.specs.Rows.{rows, rowsFrom}
-use Rattle.octets.proofs.PatchLaws.{part-patch, part-before, drop-after, drop-patch, patch-front}
+use Rattle.octets.proofs.PatchLaws.{part-patch, part-before, drop-after, drop-patch}
 
 pub rows-length : (size count : ℕ) (xs : List ℕ) → length (rows size count xs) ≡ count
 unfolding rows

@@ -2,12 +2,13 @@
 use Prim.Native.Nat.{ℕ}
 use mathlib.Core.Bool.{Bool, true, false, not}
 use mathlib.Core.List.{List}
-use lib.Dec.{leb, eqb}
+use lib.Dec.{eqb}
 use lib.ListN.{length, take, drop}
 use Rattle.octets.specs.Choice.{if_then_else_}
 use Rattle.forms.specs.declared.text.MessageId.the-variants.{Empty}
 use Rattle.wire.specs.Status.{invalidCommandId, invalidBindStatus, invalidPassword}
 use Rattle.wire.specs.Frame.{frameOf, headerOf}
+use Rattle.wire.specs.Command.{Command, BindReceiver, BindTransmitter, QuerySm, SubmitSm, Unbind, ReplaceSm, CancelSm, EnquireLink, Response, Unknown, commandOf}
 use Rattle.wire.specs.Fields.{octetsOf}
 use Rattle.answers.specs.Reply.{genericNak, noBody, bindBody, submitBody, noQuery}
 use Rattle.wire.specs.declared.frame.Frame.{Frame}
@@ -22,7 +23,7 @@ use Rattle.session.specs.declared.Entry.the-variants.{Open, Transmitter, Receiv
 use Rattle.isolation.specs.Platform.{Front}
 use Rattle.open.specs.declared.Bound.{Bound}
 use Rattle.open.specs.declared.Fronted.{Fronted}
-use Rattle.answers.specs.Answer.{Octets, Answer, taken, repliedTo, silent, nakLength, bindReceiver, bindTransmitter, querySm, submitSm, unbind, replaceSm, cancelSm, enquireLink, firstResponse}
+use Rattle.answers.specs.Answer.{Octets, Answer, taken, repliedTo, silent, nakLength}
 
 -- ---- bind: the lowest used, well-formed book record with equal system_id and system_type; no such record or an unequal password: 13
 
@@ -54,23 +55,22 @@ openBind receiver id book n sequence body space =
     record { answer = repliedTo n id (b .status) sequence bindBody space; after = b .entry }
 
 -- the binds need open; enquire_link suits any live session; the others need a bound session, else 4
-unfoldable pub openCommand : List ℕ → ℕ → ℕ → ℕ → List ℕ → List ℕ → Front Answer
-openCommand book n command sequence body space =
-    if eqb command bindReceiver then openBind true 0x80000001 book n sequence body space
-    else if eqb command bindTransmitter then openBind false 0x80000002 book n sequence body space
-    else if eqb command querySm then stays (repliedTo n 0x80000003 invalidBindStatus sequence noQuery space)
-    else if eqb command submitSm then stays (repliedTo n 0x80000004 invalidBindStatus sequence (submitBody Empty) space)
-    else if eqb command unbind then stays (repliedTo n 0x80000006 invalidBindStatus sequence noBody space)
-    else if eqb command replaceSm then stays (repliedTo n 0x80000007 invalidBindStatus sequence noBody space)
-    else if eqb command cancelSm then stays (repliedTo n 0x80000008 invalidBindStatus sequence noBody space)
-    else if eqb command enquireLink then stays (repliedTo n 0x80000015 (plainOf body) sequence noBody space)
-    else if leb firstResponse command then stays (silent n space)
-    else stays (repliedTo n genericNak invalidCommandId sequence noBody space)
+abbrev pub openCommand : List ℕ → ℕ → ℕ → List ℕ → List ℕ → Command → Front Answer
+openCommand book n sequence body space BindReceiver = openBind true 0x80000001 book n sequence body space
+openCommand book n sequence body space BindTransmitter = openBind false 0x80000002 book n sequence body space
+openCommand book n sequence body space QuerySm = stays (repliedTo n 0x80000003 invalidBindStatus sequence noQuery space)
+openCommand book n sequence body space SubmitSm = stays (repliedTo n 0x80000004 invalidBindStatus sequence (submitBody Empty) space)
+openCommand book n sequence body space Unbind = stays (repliedTo n 0x80000006 invalidBindStatus sequence noBody space)
+openCommand book n sequence body space ReplaceSm = stays (repliedTo n 0x80000007 invalidBindStatus sequence noBody space)
+openCommand book n sequence body space CancelSm = stays (repliedTo n 0x80000008 invalidBindStatus sequence noBody space)
+openCommand book n sequence body space EnquireLink = stays (repliedTo n 0x80000015 (plainOf body) sequence noBody space)
+openCommand book n sequence body space Response = stays (silent n space)
+openCommand book n sequence body space Unknown = stays (repliedTo n genericNak invalidCommandId sequence noBody space)
 
 abbrev pub openPdu : List ℕ → List ℕ → List ℕ → Front Answer
 openPdu book pdu space =
     let h = headerOf pdu in
-    openCommand book (length pdu) (h .command) (h .sequence) (drop 16 pdu) space
+    openCommand book (length pdu) (h .sequence) (drop 16 pdu) space (commandOf (h .command))
 
 abbrev pub openFrame : List ℕ → List ℕ → List ℕ → Frame → Front Answer
 openFrame book octets space More = stays (taken 1 0 0 space)

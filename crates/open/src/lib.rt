@@ -10,11 +10,12 @@ use wire::frame;
 use wire::frame::Frame;
 use wire::status;
 ghost use mathlib.Core.Path.{_≡_};
-ghost use Prim.Native.Nat.{_+_, _≤_};
-ghost use lib.ListN.{length, drop};
+ghost use Prim.Native.Nat.{_≤_};
+ghost use lib.ListN.{length};
 ghost use Rattle.answers.specs.Reply.{spaceNeeded};
 ghost use Rattle.records.specs.Book.{bookSize};
 ghost use Rattle.open.specs.Open.{legOf, bindTo, openBind, openCommand, openPdu, openFrame, answers};
+ghost use Rattle.wire.specs.Command.{commandOf};
 ghost use Rattle.wire.specs.Frame.{frameOf};
 
 // What a bind comes to.
@@ -125,7 +126,7 @@ fn open_command(
     space: &mut [u8],
 ) -> Fronted
     requires { ⌜ (length (now book) ≡ bookSize) × (spaceNeeded ≤ length (now space)) ⌝ }
-    ensures { λ r. ⌜ answers r (now (space .exit)) ≡ openCommand (now (book .entry)) consumed command sequence (now (body .entry)) (now (space .entry)) ⌝ }
+    ensures { λ r. ⌜ answers r (now (space .exit)) ≡ openCommand (now (book .entry)) consumed sequence (now (body .entry)) (now (space .entry)) (commandOf command) ⌝ }
 {
     match command {
         1 => open_bind(true, 0x8000_0001, book, consumed, sequence, body, space),

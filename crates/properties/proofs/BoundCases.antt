@@ -5,6 +5,7 @@ use mathlib.Core.Bool.{Bool, true, false}
 use mathlib.Core.List.{List}
 use Prim.Native.Nat.{ℕ}
 use Rattle.octets.proofs.StretchLaws.{if-cases}
+use Rattle.wire.specs.Command.{Command, BindReceiver, BindTransmitter, QuerySm, SubmitSm, Unbind, ReplaceSm, CancelSm, EnquireLink, Response, Unknown, commandOf}
 use Rattle.wire.specs.Frame.{frameOf}
 use Rattle.answers.specs.Reply.{submitBody, noQuery}
 use Rattle.wire.specs.declared.frame.Frame.{Frame}
@@ -62,25 +63,23 @@ module _ (book : List ℕ) (x : Octets) (part : List ℕ) (last : ℕ) where
     unfolding unbindTurn
     unbind-cases body = turns .same _ _ _
 
-    command-cases : (n command sequence : ℕ) (body : List ℕ)
-        → P (boundCommand transmitter book (x .stamp) n command sequence body (x .space) part last)
-    unfolding boundCommand
-    command-cases n command sequence body =
-        let reply = answers .replies n in
-        if-cases P _ _ _ (λ _. reply _ sequence _ (turns .same _ _ _)) λ _.
-        if-cases P _ _ _ (λ _. reply _ sequence _ (turns .same _ _ _)) λ _.
-        if-cases P _ _ _ (λ _. reply _ sequence _ (query-cases body)) λ _.
-        if-cases P _ _ _ (λ _. reply _ sequence _ (submit-cases body)) λ _.
-        if-cases P _ _ _ (λ _. reply _ sequence _ (unbind-cases body)) λ _.
-        if-cases P _ _ _ (λ _. reply _ sequence _ (replace-cases body)) λ _.
-        if-cases P _ _ _ (λ _. reply _ sequence _ (cancel-cases body)) λ _.
-        if-cases P _ _ _ (λ _. reply _ sequence _ (turns .same _ _ _)) λ _.
-        if-cases P _ _ _ (λ _. answers .quiet n) λ _. reply _ sequence _ (turns .same _ _ _)
+    command-cases : (n sequence : ℕ) (body : List ℕ) (command : Command)
+        → P (boundCommand transmitter book (x .stamp) n sequence body (x .space) part last command)
+    command-cases n sequence body BindReceiver = answers .replies n _ sequence _ (turns .same _ _ _)
+    command-cases n sequence body BindTransmitter = answers .replies n _ sequence _ (turns .same _ _ _)
+    command-cases n sequence body QuerySm = answers .replies n _ sequence _ (query-cases body)
+    command-cases n sequence body SubmitSm = answers .replies n _ sequence _ (submit-cases body)
+    command-cases n sequence body Unbind = answers .replies n _ sequence _ (unbind-cases body)
+    command-cases n sequence body ReplaceSm = answers .replies n _ sequence _ (replace-cases body)
+    command-cases n sequence body CancelSm = answers .replies n _ sequence _ (cancel-cases body)
+    command-cases n sequence body EnquireLink = answers .replies n _ sequence _ (turns .same _ _ _)
+    command-cases n sequence body Response = answers .quiet n
+    command-cases n sequence body Unknown = answers .replies n _ sequence _ (turns .same _ _ _)
 
     frame-cases : (frame : Frame) → P (boundFrame transmitter book (x .octets) (x .stamp) (x .space) frame part last)
     frame-cases More = answers .more
     frame-cases Malformed = answers .nak
-    frame-cases (Whole n) = command-cases _ _ _ _
+    frame-cases (Whole n) = command-cases _ _ _ (commandOf _)
 
   pub bound-cases : (P : Effect Answer → Type 0) (Q : Turn → Type 0) (transmitter : Bool)
       → (accountOk book last part ≡ false → P (keeping (refusedOctets 9 x) part last))

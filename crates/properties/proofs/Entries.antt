@@ -9,6 +9,7 @@ use lib.ListN as L
 use borrow.Author.Tests.{eqb-true}
 use Rattle.octets.specs.Choice.{if_then_else_}
 use Rattle.octets.proofs.StretchLaws.{if-cases}
+use Rattle.wire.specs.Command.{Command, BindReceiver, BindTransmitter, QuerySm, SubmitSm, Unbind, ReplaceSm, CancelSm, EnquireLink, Response, Unknown, commandOf}
 use Rattle.wire.specs.Status.{invalidPassword}
 use Rattle.wire.specs.Fields.{octetsOf}
 use Rattle.wire.specs.Frame.{frameOf}
@@ -22,7 +23,7 @@ use Rattle.session.specs.declared.Entry.{Entry}
 use Rattle.session.specs.declared.Entry.the-variants.{Closed, Open, Transmitter, Receiver, Ended}
 use Rattle.session.specs.declared.Moved.{Moved}
 use Rattle.session.specs.declared.Session.{Session}
-use Rattle.isolation.specs.Platform.{World, fresh, Step, opens, closes, octets, outcome, picks, Front, Ran, ask, taken, move, octetsOn, step}
+use Rattle.isolation.specs.Platform.{World, fresh, Step, opens, closes, octets, outcome, picks, Ran, ask, taken, move, octetsOn, step}
 use Rattle.isolation.specs.Platform as P
 use Rattle.isolation.specs.History.{boundTo, after}
 use Rattle.answers.specs.Answer.{Octets, Outcome, Answer}
@@ -73,25 +74,27 @@ module _ (book : List ℕ) where
       if-cases Q (passwordIs (octetsOf (b .password) body) (bookRecord a book)) _ _ (λ _. leg-leads receiver a (record { below = n .0; used = n .1 })) (λ _. refused))
       (λ _. refused)
 
-  command-leads : (n command sequence : ℕ) (body space : List ℕ) → Leads (openCommand book n command sequence body space .after)
-  unfolding openCommand openBind
-  command-leads n command sequence body space =
-      let Q : Front Answer → Type 0 = λ f. Leads (f .after) in
-      let stays : Leads Open = unbound Open (λ _. refl) in
-      if-cases Q _ _ _ (λ _. bind-leads true body) λ _.
-      if-cases Q _ _ _ (λ _. bind-leads false body) λ _.
-      if-cases Q _ _ _ (λ _. stays) λ _.
-      if-cases Q _ _ _ (λ _. stays) λ _.
-      if-cases Q _ _ _ (λ _. stays) λ _.
-      if-cases Q _ _ _ (λ _. stays) λ _.
-      if-cases Q _ _ _ (λ _. stays) λ _.
-      if-cases Q _ _ _ (λ _. stays) λ _.
-      if-cases Q _ _ _ (λ _. stays) λ _. stays
+  -- a request that isn't a bind leaves the session open
+  stays-open : Leads Open
+  stays-open = unbound Open (λ _. refl)
+
+  command-leads : (n sequence : ℕ) (body space : List ℕ) (command : Command) → Leads (openCommand book n sequence body space command .after)
+  unfolding openBind
+  command-leads n sequence body space BindReceiver = bind-leads true body
+  command-leads n sequence body space BindTransmitter = bind-leads false body
+  command-leads n sequence body space QuerySm = stays-open
+  command-leads n sequence body space SubmitSm = stays-open
+  command-leads n sequence body space Unbind = stays-open
+  command-leads n sequence body space ReplaceSm = stays-open
+  command-leads n sequence body space CancelSm = stays-open
+  command-leads n sequence body space EnquireLink = stays-open
+  command-leads n sequence body space Response = stays-open
+  command-leads n sequence body space Unknown = stays-open
 
   frame-leads : (os space : List ℕ) (frame : Frame) → Leads (openFrame book os space frame .after)
-  frame-leads os space More = unbound Open (λ _. refl)
+  frame-leads os space More = stays-open
   frame-leads os space Malformed = unbound Ended (λ _. refl)
-  frame-leads os space (Whole n) = command-leads _ _ _ _ _
+  frame-leads os space (Whole n) = command-leads _ _ _ _ (commandOf _)
 
   -- ---- steps
 

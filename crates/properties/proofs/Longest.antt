@@ -1,5 +1,4 @@
 -- No reply is longer than 44 octets: its body has at most 28, a query's being the longest. Assumes nothing.
-use mathlib.Core.Path.{_≡_}
 use mathlib.Core.Bool.{Bool}
 use mathlib.Core.List.{List, []}
 use Prim.Native.Nat.{ℕ, _≤_}
@@ -8,6 +7,7 @@ use lib.ListN.{length, length-take}
 use Rattle.octets.proofs.StretchLaws.{if-cases}
 use Rattle.forms.specs.Field.{textOf}
 use Rattle.forms.proofs.TextLaws.{textOf-within}
+use Rattle.wire.specs.Command.{Command, BindReceiver, BindTransmitter, QuerySm, SubmitSm, Unbind, ReplaceSm, CancelSm, EnquireLink, Response, Unknown, commandOf}
 use Rattle.wire.specs.Frame.{frameOf}
 use Rattle.answers.specs.Reply.{over, noQuery}
 use Rattle.wire.specs.declared.frame.Frame.{Frame}
@@ -88,42 +88,42 @@ short-turn : (n id sequence : ℕ) (t : Turn) (space : List ℕ) → Brief t →
 unfolding replying Brief
 short-turn n id sequence t space h = short-reply n id (t .status) sequence (t .body) space h
 
-short-bound : (transmitter : Bool) (book stamp : List ℕ) (n command sequence : ℕ) (body space part : List ℕ) (last : ℕ)
-    → ShortEffect (boundCommand transmitter book stamp n command sequence body space part last)
-unfolding boundCommand Brief
-short-bound transmitter book stamp n command sequence body space part last =
-    if-cases ShortEffect _ _ _ (λ _. short-turn n _ sequence _ space (omega arith)) λ _.
-    if-cases ShortEffect _ _ _ (λ _. short-turn n _ sequence _ space (omega arith)) λ _.
-    if-cases ShortEffect _ _ _ (λ _. short-turn n _ sequence _ space (query-brief transmitter book stamp body part last)) λ _.
-    if-cases ShortEffect _ _ _ (λ _. short-turn n _ sequence _ space (submit-brief transmitter book stamp body part last)) λ _.
-    if-cases ShortEffect _ _ _ (λ _. short-turn n _ sequence _ space (unbind-brief transmitter book stamp body part last)) λ _.
-    if-cases ShortEffect _ _ _ (λ _. short-turn n _ sequence _ space (replace-brief transmitter book stamp body part last)) λ _.
-    if-cases ShortEffect _ _ _ (λ _. short-turn n _ sequence _ space (cancel-brief transmitter book stamp body part last)) λ _.
-    if-cases ShortEffect _ _ _ (λ _. short-turn n _ sequence _ space (omega arith)) λ _.
-    if-cases ShortEffect _ _ _ (λ _. omega arith) λ _. short-turn n _ sequence _ space (omega arith)
+short-bound : (transmitter : Bool) (book stamp : List ℕ) (n sequence : ℕ) (body space part : List ℕ) (last : ℕ) (command : Command)
+    → ShortEffect (boundCommand transmitter book stamp n sequence body space part last command)
+unfolding Brief
+short-bound transmitter book stamp n sequence body space part last BindReceiver = short-turn n _ sequence _ space (omega arith)
+short-bound transmitter book stamp n sequence body space part last BindTransmitter = short-turn n _ sequence _ space (omega arith)
+short-bound transmitter book stamp n sequence body space part last QuerySm = short-turn n _ sequence _ space (query-brief transmitter book stamp body part last)
+short-bound transmitter book stamp n sequence body space part last SubmitSm = short-turn n _ sequence _ space (submit-brief transmitter book stamp body part last)
+short-bound transmitter book stamp n sequence body space part last Unbind = short-turn n _ sequence _ space (unbind-brief transmitter book stamp body part last)
+short-bound transmitter book stamp n sequence body space part last ReplaceSm = short-turn n _ sequence _ space (replace-brief transmitter book stamp body part last)
+short-bound transmitter book stamp n sequence body space part last CancelSm = short-turn n _ sequence _ space (cancel-brief transmitter book stamp body part last)
+short-bound transmitter book stamp n sequence body space part last EnquireLink = short-turn n _ sequence _ space (omega arith)
+short-bound transmitter book stamp n sequence body space part last Response = omega arith
+short-bound transmitter book stamp n sequence body space part last Unknown = short-turn n _ sequence _ space (omega arith)
 
-short-open : (book : List ℕ) (n command sequence : ℕ) (body space : List ℕ) → ShortFront (openCommand book n command sequence body space)
-unfolding openCommand openBind
-short-open book n command sequence body space =
-    if-cases ShortFront _ _ _ (λ _. short-reply n _ _ sequence _ space (omega arith)) λ _.
-    if-cases ShortFront _ _ _ (λ _. short-reply n _ _ sequence _ space (omega arith)) λ _.
-    if-cases ShortFront _ _ _ (λ _. short-reply n _ _ sequence _ space none-brief) λ _.
-    if-cases ShortFront _ _ _ (λ _. short-reply n _ _ sequence _ space (omega (arith, idText-within Empty))) λ _.
-    if-cases ShortFront _ _ _ (λ _. short-reply n _ _ sequence _ space (omega arith)) λ _.
-    if-cases ShortFront _ _ _ (λ _. short-reply n _ _ sequence _ space (omega arith)) λ _.
-    if-cases ShortFront _ _ _ (λ _. short-reply n _ _ sequence _ space (omega arith)) λ _.
-    if-cases ShortFront _ _ _ (λ _. short-reply n _ _ sequence _ space (omega arith)) λ _.
-    if-cases ShortFront _ _ _ (λ _. omega arith) λ _. short-reply n _ _ sequence _ space (omega arith)
+short-open : (book : List ℕ) (n sequence : ℕ) (body space : List ℕ) (command : Command) → ShortFront (openCommand book n sequence body space command)
+unfolding openBind
+short-open book n sequence body space BindReceiver = short-reply n _ _ sequence _ space (omega arith)
+short-open book n sequence body space BindTransmitter = short-reply n _ _ sequence _ space (omega arith)
+short-open book n sequence body space QuerySm = short-reply n _ _ sequence _ space none-brief
+short-open book n sequence body space SubmitSm = short-reply n _ _ sequence _ space (omega (arith, idText-within Empty))
+short-open book n sequence body space Unbind = short-reply n _ _ sequence _ space (omega arith)
+short-open book n sequence body space ReplaceSm = short-reply n _ _ sequence _ space (omega arith)
+short-open book n sequence body space CancelSm = short-reply n _ _ sequence _ space (omega arith)
+short-open book n sequence body space EnquireLink = short-reply n _ _ sequence _ space (omega arith)
+short-open book n sequence body space Response = omega arith
+short-open book n sequence body space Unknown = short-reply n _ _ sequence _ space (omega arith)
 
 open-frame : (book octets space : List ℕ) (frame : Frame) → ShortFront (openFrame book octets space frame)
 open-frame book octets space More = omega arith
 open-frame book octets space Malformed = short-reply 4 _ _ 0 _ space (omega arith)
-open-frame book octets space (Whole n) = short-open book _ _ _ _ space
+open-frame book octets space (Whole n) = short-open book _ _ _ space (commandOf _)
 
 bound-frame : (transmitter : Bool) (book octets stamp space part : List ℕ) (last : ℕ) (frame : Frame) → ShortEffect (boundFrame transmitter book octets stamp space frame part last)
 bound-frame transmitter book octets stamp space part last More = omega arith
 bound-frame transmitter book octets stamp space part last Malformed = short-reply 4 _ _ 0 _ space (omega arith)
-bound-frame transmitter book octets stamp space part last (Whole n) = short-bound transmitter book stamp _ _ _ _ space part last
+bound-frame transmitter book octets stamp space part last (Whole n) = short-bound transmitter book stamp _ _ _ space part last (commandOf _)
 
 short-asked : (transmitter : Bool) (book : List ℕ) (x : Octets) (part : List ℕ) (last : ℕ) → ShortEffect (onBound transmitter book x part last)
 unfolding onBound

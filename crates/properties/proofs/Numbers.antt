@@ -4,7 +4,7 @@ use mathlib.Core.Path.{_≡_, refl, sym, subst, _∙_}
 use mathlib.Core.Bool.{Bool, true, false, not, false≢true}
 use mathlib.Core.List.{List}
 use lib.Dec.{leb, ltb, eqb}
-use lib.ListN.{length}
+use lib.ListN.{length, take}
 use borrow.Author.Tests.{eq-eqb, lt-ltb, not-true}
 use Rattle.octets.specs.Choice.{if_then_else_}
 use Rattle.octets.proofs.StretchLaws.{if-cases}
@@ -32,7 +32,7 @@ use Rattle.centre.specs.Centre.{centre, act, octetsEarly, outcomeEarly, pickEar
 use Rattle.wellformed.proofs.Cases.{found-cases}
 use Rattle.properties.specs.Property1.{wellFormed}
 use Rattle.properties.proofs.BoundCases.{bound-cases}
-use Rattle.properties.proofs.Refused.{command-zero}
+use Rattle.properties.proofs.Refused.{pdu-zero}
 
 module _ (N : ℕ → Type 0) where
   abbrev Effects : Effect Answer → Type 0
@@ -103,7 +103,7 @@ module _ (N : ℕ → Type 0) where
       front-number : (frame : Frame) → N (numberOf (openFrame book (x .octets) (x .space) frame .answer))
       front-number More = more
       front-number Malformed = done
-      front-number (Whole n) = subst N (sym (command-zero book _ _ _ _ _)) done
+      front-number (Whole n) = subst N (sym (pdu-zero book (take n (x .octets)) (x .space))) done
 
       octetsOf-number : (e : Entry) (a : ℕ) → (Ill a → N 9) → Gives (octetsOf centre book w s x e a)
       unfolding act

@@ -3,10 +3,11 @@ use Prim.Native.Nat.{ℕ}
 use mathlib.Core.Path.{_≡_, refl, ap, _∙_}
 use mathlib.Core.List.{List}
 use lib.Dec.{leb, ltb, eqb}
-use lib.ListN.{length}
+use lib.ListN.{length, take, drop}
 use Rattle.octets.specs.Choice.{if_then_else_}
 use Rattle.octets.proofs.StretchLaws.{if-cases}
-use Rattle.wire.specs.Frame.{frameOf}
+use Rattle.wire.specs.Command.{Command, BindReceiver, BindTransmitter, QuerySm, SubmitSm, Unbind, ReplaceSm, CancelSm, EnquireLink, Response, Unknown, commandOf}
+use Rattle.wire.specs.Frame.{frameOf, headerOf}
 use Rattle.wire.specs.declared.frame.Frame.{Frame}
 use Rattle.wire.specs.declared.frame.Frame.the-variants.{More, Malformed, Whole}
 use Rattle.records.specs.Book.{bookRecord}
@@ -15,10 +16,10 @@ use Rattle.session.specs.State.{sessionCount, accountCount, entryAt, lastAt, op
 use Rattle.session.specs.declared.Entry.{Entry}
 use Rattle.session.specs.declared.Entry.the-variants.{Closed, Open, Transmitter, Receiver, Ended}
 use Rattle.session.specs.declared.Moved.{Moved}
-use Rattle.isolation.specs.Platform.{World, partOf, Step, opens, closes, octets, outcome, picks, Effect, Front, Ran, unchanged, put, putEntry, move, settle, octetsOf, octetsOn, octetsAfter, step}
+use Rattle.isolation.specs.Platform.{World, partOf, Step, opens, closes, octets, outcome, picks, Effect, Ran, unchanged, put, putEntry, move, settle, octetsOf, octetsOn, octetsAfter, step}
 use Rattle.answers.specs.Answer.{Octets, Outcome, Answer, numbered, numberOf}
 use Rattle.answers.specs.Answer as A
-use Rattle.open.specs.Open.{openBind, openCommand, openFrame, onOpen}
+use Rattle.open.specs.Open.{openBind, openCommand, openPdu, openFrame, onOpen}
 use Rattle.bound.specs.Bound.{Turn, replying, keeping, isTransmitter}
 use Rattle.centre.specs.Operations.{onOutcome}
 use Rattle.centre.specs.Centre.{centre, act, earlyOctets}
@@ -27,20 +28,24 @@ use Rattle.properties.specs.Property1.{refusal}
 use Rattle.properties.proofs.Back.{entry-back, account-back, pick-back}
 use Rattle.properties.proofs.BoundCases.{bound-cases}
 
+command-zero : (book : List ℕ) (n sequence : ℕ) (body space : List ℕ) (command : Command) → numberOf (openCommand book n sequence body space command .answer) ≡ 0
+unfolding openBind
+command-zero book n sequence body space BindReceiver = refl
+command-zero book n sequence body space BindTransmitter = refl
+command-zero book n sequence body space QuerySm = refl
+command-zero book n sequence body space SubmitSm = refl
+command-zero book n sequence body space Unbind = refl
+command-zero book n sequence body space ReplaceSm = refl
+command-zero book n sequence body space CancelSm = refl
+command-zero book n sequence body space EnquireLink = refl
+command-zero book n sequence body space Response = refl
+command-zero book n sequence body space Unknown = refl
+
 -- every PDU on an open session is answered with number 0
-pub command-zero : (book : List ℕ) (n command sequence : ℕ) (body space : List ℕ) → numberOf (openCommand book n command sequence body space .answer) ≡ 0
-unfolding openCommand openBind
-command-zero book n command sequence body space =
-    let P : Front Answer → Type 0 = λ f. numberOf (f .answer) ≡ 0 in
-    if-cases P _ _ _ (λ _. refl) λ _.
-    if-cases P _ _ _ (λ _. refl) λ _.
-    if-cases P _ _ _ (λ _. refl) λ _.
-    if-cases P _ _ _ (λ _. refl) λ _.
-    if-cases P _ _ _ (λ _. refl) λ _.
-    if-cases P _ _ _ (λ _. refl) λ _.
-    if-cases P _ _ _ (λ _. refl) λ _.
-    if-cases P _ _ _ (λ _. refl) λ _.
-    if-cases P _ _ _ (λ _. refl) λ _. refl
+pub pdu-zero : (book pdu space : List ℕ) → numberOf (openPdu book pdu space .answer) ≡ 0
+pdu-zero book pdu space =
+    let h = headerOf pdu in
+    command-zero book (length pdu) (h .sequence) (drop 16 pdu) space (commandOf (h .command))
 
 module _ (w : World) where
   -- what is shown of a step and what it gives
@@ -59,7 +64,7 @@ module _ (w : World) where
         Refuses (octets s x) (unchanged centre (putEntry centre w s (f .after)) (f .answer)))
     refused-front h More ne = ap (λ (v : World). unchanged centre v (A.taken 1 0 0 (x .space))) (entry-back w s Open h)
     refused-front h Malformed ne = absurd (ne refl)
-    refused-front h (Whole n) ne = absurd (ne (command-zero book _ _ _ _ _))
+    refused-front h (Whole n) ne = absurd (ne (pdu-zero book (take n (x .octets)) (x .space)))
 
     -- an account asked on a session that keeps its entry, and left as it was
     settled-back : (e : Entry) → entryAt (w .state) s ≡ e → (a : ℕ) (answer : Answer)

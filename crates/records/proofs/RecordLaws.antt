@@ -1,23 +1,21 @@
 -- What the state octet tells of a record, and the callback address of a book record. Assumes nothing.
-use mathlib.Core.Path.{_≡_, refl, sym, ap, _∙_}
-use mathlib.Core.Bool.{Bool, true, false, not, _&&_, _||_, false≢true}
+use mathlib.Core.Path.{_≡_, refl, sym}
+use mathlib.Core.Bool.{Bool, true, false, not, _&&_, _||_}
 use mathlib.Core.List.{List, [], _∷_}
-use Prim.Native.Nat.{ℕ, zero, suc, _+_, _<_, _≤_}
-use native.Mathlib.Omega.{arith}
+use Prim.Native.Nat.{ℕ, zero, suc, _<_}
 use lib.ListN.{length, take, drop, getD}
 use lib.Dec.{eqb}
-use borrow.Author.Tests.{eq-eqb, ne-eqb, eqb-true}
+use borrow.Author.Tests.{eqb-true}
 use Rattle.octets.specs.Choice.{if_then_else_}
 use Rattle.octets.specs.Stretch.{every, isZero, zeros, part}
 use Rattle.octets.proofs.StretchLaws.{and-left, and-right, and-both, and-false, every-at}
-use Rattle.forms.specs.Class.{inClass, lead}
-use Rattle.forms.specs.declared.class.Class.the-variants.{NotNul}
+use Rattle.forms.specs.Class.{lead}
 use Rattle.forms.specs.declared.text.Form.the-variants.{Digits}
 use Rattle.forms.specs.Text.{formed}
 use Rattle.forms.specs.Field.{textOf, isField}
 use Rattle.records.specs.Layout.{stateOf}
 use Rattle.records.specs.Record.{messageOk, recordOk}
-use Rattle.records.specs.Book.{bookOk, usedOk, endedText, systemOf, passwordOf, kindOf}
+use Rattle.records.specs.Book.{bookOk, usedOk}
 
 or-false : (b : Bool) → (b || false) ≡ b
 or-false true = refl

@@ -1,6 +1,5 @@
 -- The state and what opening, closing, binding and unbinding make of it (document 01, "What the centre does" and "Numbers a caller gets").
 use Prim.Native.Nat.{ℕ}
-use mathlib.Core.List.{List}
 use lib.ListN.{getD, set, replicate}
 use lib.Dec.{leb}
 use Rattle.octets.specs.Choice.{if_then_else_}

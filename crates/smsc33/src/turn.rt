@@ -4,13 +4,13 @@ use lines::record::Order;
 use lines::text;
 use session::State;
 ghost use mathlib.Core.Path.{_≡_};
-ghost use Prim.Native.Nat.{ℕ, _≤_};
+ghost use Prim.Native.Nat.{ℕ};
 ghost use mathlib.Core.List.{List};
-ghost use lib.ListN.{length, getD};
+ghost use lib.ListN.{length};
 ghost use Rattle.isolation.specs.Platform.{Step};
 ghost use Rattle.centre.specs.Centre.{step, world};
 ghost use Rattle.lines.specs.Line.{lineRoom};
-ghost use Rattle.lines.specs.Record.{recordSize, stampOf, outcomeOf, accountOf};
+ghost use Rattle.lines.specs.Record.{recordSize, outcomeOf, accountOf};
 ghost use Rattle.smsc33.specs.Turn.{turned, answered, stopped, turnOf, zeroSpace, Fits};
 
 // The line is the first `length` octets of the text.

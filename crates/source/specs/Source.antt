@@ -11,7 +11,7 @@ use Rattle.forms.specs.declared.text.MessageId.the-variants.{Empty, Number}
 use Rattle.records.specs.Book.{callbackOf}
 use Rattle.store.specs.Search.{placeOf}
 use Rattle.store.specs.declared.places.Found.{Found}
-use Rattle.store.specs.declared.places.Found.the-variants.{At, Nowhere}
+use Rattle.store.specs.declared.places.Found.the-variants.{Nowhere}
 
 -- an address has a first character unless it is empty
 abbrev pub noAddress : List ℕ → Bool

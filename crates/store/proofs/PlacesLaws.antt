@@ -1,23 +1,20 @@
 -- Laws of the sixteen places: a loop over them, a place that is found, a record lent and given back. Assumes nothing.
-use mathlib.Core.Path.{_≡_, refl, sym, ap, _∙_}
-use mathlib.Core.Bool.{Bool, true, false, not, _&&_, _||_, false≢true}
+use mathlib.Core.Path.{_≡_, sym, ap, _∙_}
+use mathlib.Core.Bool.{Bool, true, false, _&&_, _||_, false≢true}
 use mathlib.Core.List.{List, [], _∷_, _++_}
-use Prim.Native.Nat.{ℕ, zero, suc, _+_, _-_, _*_, _≤_, _<_}
+use Prim.Native.Nat.{ℕ, suc, _+_, _-_, _*_, _≤_, _<_}
 use native.Mathlib.Omega.{arith}
 use native.Mathlib.Nat.{add-sub-cancel-left}
 use lib.ListN.{length, take, drop}
-use lib.Dec.{ltb}
-use Rattle.octets.specs.Choice.{if_then_else_}
 use Rattle.octets.specs.Stretch.{every, part, patch}
 use Rattle.octets.specs.Rows.{rows, rowsFrom}
 use Rattle.octets.proofs.StretchLaws.{and-assoc, and-true, if-cases, part-length}
 use Rattle.octets.proofs.RowsLaws.{rows-length, rows-more, rows-end}
 use Rattle.octets.proofs.PatchLaws.{part-back}
 use Rattle.records.specs.Layout.{recordSize, places, partSize, idOf}
-use Rattle.store.specs.Places.{records, recordAt, Below, over, none, keep, foundOf, lowest, onPlace, onPlaces}
+use Rattle.store.specs.Places.{recordAt, Below, over, none, keep, foundOf, lowest, onPlace, onPlaces}
 use Rattle.store.specs.Search.{isEmpty}
 use Rattle.store.specs.Account.{otherId, apart}
-use Rattle.store.specs.declared.places.Found.{Found}
 use Rattle.store.specs.declared.places.Found.the-variants.{At, Nowhere}
 use Rattle.store.specs.declared.places.Best.{Best}
 

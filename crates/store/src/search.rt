@@ -10,7 +10,7 @@ ghost use lib.ListN.{length};
 ghost use Rattle.records.specs.Layout.{recordSize, places, partSize};
 ghost use Rattle.store.specs.Places.{records, recordAt, Below, OnePlace, keep, lowest};
 ghost use Rattle.records.specs.Book.{bookRecordSize, bookSize, named};
-ghost use Rattle.store.specs.Search.{waiting, between, turn, placeOf, pairPlace, emptyPlace, finishedPlace, newPlace, nextPlace, namedPlace, passes, rankOf};
+ghost use Rattle.store.specs.Search.{waiting, between, turn, placeOf, pairPlace, newPlace, nextPlace, namedPlace, passes, rankOf};
 
 // What a record must be, to be looked at: of an id; waiting between two addresses; empty; finished; waiting.
 pub enum Search {

@@ -12,7 +12,7 @@ ghost use Rattle.requests.specs.Submit.{SubmitInside};
 ghost use Rattle.records.specs.Layout.{partSize};
 ghost use Rattle.records.specs.Book.{bookRecordSize};
 ghost use Rattle.store.specs.Places.{OnePlace};
-ghost use Rattle.submit.specs.Submit.{Submitted, refused, fieldsOf, added, toReplace, stored, submitted, gave};
+ghost use Rattle.submit.specs.Submit.{fieldsOf, added, toReplace, stored, submitted, gave};
 
 const LAST_OF_ALL: u32 = 0xFFFF_FFFF;
 

@@ -9,6 +9,7 @@ use Rattle.forms.specs.Text.{afterSpaces, formed, nibble, messageId}
 use Rattle.forms.specs.Time.{twoDigits, isTime, sentTime, storedTime}
 use Rattle.wire.specs.Cursor.{notBoth, endOf}
 use Rattle.wire.specs.Fields.{octetAt, textAt, addressAt, idAt, timeAt, spanAt, shortAt}
+use Rattle.wire.specs.Command.{commandOf}
 use Rattle.wire.specs.Frame.{frameOf, headerOf}
 use Rattle.answers.specs.Reply.{header, reply, idText, queryBody, over}
 use Rattle.requests.specs.Bind.{bindOf}
@@ -32,11 +33,11 @@ use Rattle.account.specs.Replace.{replacedIn, replaced}
 use Rattle.account.specs.Outcome.{reported}
 use Rattle.session.specs.State.{opened, closed}
 use Rattle.isolation.specs.Platform.{fresh, step}
-use Rattle.open.specs.Open.{bindTo, openBind, openCommand, onOpen}
-use Rattle.bound.specs.Bound.{submitTurn, queryTurn, cancelTurn, replaceTurn, unbindTurn, replying, boundCommand, onBound}
+use Rattle.open.specs.Open.{bindTo, openBind, onOpen}
+use Rattle.bound.specs.Bound.{submitTurn, queryTurn, cancelTurn, replaceTurn, unbindTurn, replying, onBound}
 use Rattle.centre.specs.Operations.{onOutcome, onPick}
 use Rattle.centre.specs.Centre.{octetsEarly, outcomeEarly, pickEarly, act}
 
 unfoldable pub computed : Unit {0}
-unfolding if_then_else_ onto octets4 hexDigit hex8 rows patch same every lead textOf isField afterSpaces formed nibble messageId twoDigits isTime sentTime storedTime notBoth endOf octetAt textAt addressAt idAt timeAt spanAt shortAt frameOf headerOf header reply idText queryBody over bindOf submitOf queryOf cancelOf replaceOf plainOf apart placesOk accountOk bookOk usedOk sameName sameAddress named passwordIs newRecord finished retexted corrected Places.over keep lowest onPlaces textOk fieldsOk endOk messageOk recordOk orElse sourceFor known added stored submitted lookedUp queried cancellable cancelledOne deletedIf cancelledAll cancelled replacedIn replaced reported opened closed fresh step bindTo openBind openCommand onOpen submitTurn queryTurn cancelTurn replaceTurn unbindTurn replying boundCommand onBound onOutcome onPick octetsEarly outcomeEarly pickEarly act
+unfolding if_then_else_ onto octets4 hexDigit hex8 rows patch same every lead textOf isField afterSpaces formed nibble messageId twoDigits isTime sentTime storedTime notBoth endOf octetAt textAt addressAt idAt timeAt spanAt shortAt frameOf commandOf headerOf header reply idText queryBody over bindOf submitOf queryOf cancelOf replaceOf plainOf apart placesOk accountOk bookOk usedOk sameName sameAddress named passwordIs newRecord finished retexted corrected Places.over keep lowest onPlaces textOk fieldsOk endOk messageOk recordOk orElse sourceFor known added stored submitted lookedUp queried cancellable cancelledOne deletedIf cancelledAll cancelled replacedIn replaced reported opened closed fresh step bindTo openBind onOpen submitTurn queryTurn cancelTurn replaceTurn unbindTurn replying onBound onOutcome onPick octetsEarly outcomeEarly pickEarly act
 computed = tt

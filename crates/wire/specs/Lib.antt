@@ -1,4 +1,5 @@
 pub mod Status
 pub mod Frame
+pub mod Command
 pub mod Cursor
 pub mod Fields

@@ -6,7 +6,6 @@ use forms::text::Form;
 use forms::text::MessageId;
 ghost use mathlib.Core.Path.{_≡_};
 ghost use Prim.Native.Nat.{_+_, _-_, _≤_};
-ghost use lib.ListN.{length, take, drop};
 ghost use Rattle.octets.specs.Stretch.{part};
 ghost use Rattle.wire.specs.Fields.{Inside, noSpan, noTime, octetAt, textAt, addressAt, timeAt, idAt, spanAt, shortAt};
 

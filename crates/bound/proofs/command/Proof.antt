@@ -1,11 +1,12 @@
 -- `bound::command` meets its contract. Assumes nothing.
 use mathlib.Core.Path.{ap}
-use borrow.Author.Tests.{ne-eqb, le-leb, lt-leb}
 use Rattle.octets.specs.Choice.{if_then_else_}
 use Rattle.octets.proofs.StretchLaws.{drop-cut}
 use Rattle.isolation.specs.Platform.{Effect}
 use Rattle.answers.specs.Answer.{Answer}
-use Rattle.bound.specs.Bound.{boundCommand, replying, unbindTurn}
+use Rattle.wire.specs.Command.{commandOf}
+use Rattle.wire.proofs.CommandLaws.{response-command, unknown-command}
+use Rattle.bound.specs.Bound.{replying, unbindTurn}
 use borrow.Author.Needs.{needs}
 use Rattle.bound.proofs.command.Statement.{statement}
 use Rattle.bound.proofs.command.Tie as tie
@@ -71,14 +72,14 @@ same-length : tie.Need-same-length
 same-length c = search needs
 
 returns : tie.Need-returns
-unfolding boundCommand replying if_then_else_
+unfolding commandOf replying if_then_else_
 returns c = rw (← (c .before .before .before .before .before .before .before .read-header .ensures), c .before .before .before .before .before .match .keys1, ← (c .before .before .before .already-bound .ensures), c .spoken .ensures)
 
 same-length-2 : tie.Need-same-length-2
 same-length-2 c = search needs
 
 returns-2 : tie.Need-returns-2
-unfolding boundCommand replying if_then_else_
+unfolding commandOf replying if_then_else_
 returns-2 c = rw (← (c .before .before .before .before .before .before .before .read-header .ensures), c .before .before .before .before .before .match .keys2, ← (c .before .before .before .already-bound2 .ensures), c .spoken2 .ensures)
 
 same-length-3 : tie.Need-same-length-3
@@ -88,7 +89,7 @@ same-length-4 : tie.Need-same-length-4
 same-length-4 c = search needs
 
 returns-3 : tie.Need-returns-3
-unfolding boundCommand if_then_else_
+unfolding commandOf if_then_else_
 returns-3 c = rw (← (c .before .before .before .before .before .before .before .read-header .ensures), c .before .before .before .before .before .match .keys3) (rw (drop-cut 16 (c .before .before .before .before .before .before .before .before .before .before .before .before .before .args .pdu .now)) at (c .before .before .query-turn .ensures))
 
 same-length-5 : tie.Need-same-length-5
@@ -98,14 +99,14 @@ same-length-6 : tie.Need-same-length-6
 same-length-6 c = search needs
 
 returns-4 : tie.Need-returns-4
-unfolding boundCommand if_then_else_
+unfolding commandOf if_then_else_
 returns-4 c = rw (← (c .before .before .before .before .before .before .before .before .before .read-header .ensures), c .before .before .before .before .before .before .before .match .keys4) (rw (drop-cut 16 (c .before .before .before .before .before .before .before .before .before .before .before .before .before .before .before .args .pdu .now)) at (c .before .before .before .before .submit-turn .ensures))
 
 same-length-7 : tie.Need-same-length-7
 same-length-7 c = search needs
 
 returns-5 : tie.Need-returns-5
-unfolding boundCommand replying unbindTurn if_then_else_
+unfolding commandOf replying unbindTurn if_then_else_
 returns-5 c = rw (← (c .before .before .before .before .before .before .read-header .ensures), c .before .before .before .before .match .keys5) (ap (λ (e : Effect Answer). record { answer = e .answer; part = c .before .before .before .before .before .before .before .before .before .before .before .before .args .part .now; last = e .last; ends = e .ends }) (rw (drop-cut 16 (c .before .before .before .before .before .before .before .before .before .before .before .before .args .pdu .now)) at (c .before .before .unbind-turn .ensures)))
 
 same-length-8 : tie.Need-same-length-8
@@ -115,7 +116,7 @@ same-length-9 : tie.Need-same-length-9
 same-length-9 c = search needs
 
 returns-6 : tie.Need-returns-6
-unfolding boundCommand if_then_else_
+unfolding commandOf if_then_else_
 returns-6 c = rw (← (c .before .before .before .before .before .before .before .before .before .read-header .ensures), c .before .before .before .before .before .before .before .match .keys6) (rw (drop-cut 16 (c .before .before .before .before .before .before .before .before .before .before .before .before .before .before .before .args .pdu .now)) at (c .before .before .before .before .replace-turn .ensures))
 
 same-length-10 : tie.Need-same-length-10
@@ -125,26 +126,26 @@ same-length-11 : tie.Need-same-length-11
 same-length-11 c = search needs
 
 returns-7 : tie.Need-returns-7
-unfolding boundCommand if_then_else_
+unfolding commandOf if_then_else_
 returns-7 c = rw (← (c .before .before .before .before .before .before .before .before .before .read-header .ensures), c .before .before .before .before .before .before .before .match .keys7) (rw (drop-cut 16 (c .before .before .before .before .before .before .before .before .before .before .before .before .before .before .before .args .pdu .now)) at (c .before .before .before .before .cancel-turn .ensures))
 
 same-length-12 : tie.Need-same-length-12
 same-length-12 c = search needs
 
 returns-8 : tie.Need-returns-8
-unfolding boundCommand replying if_then_else_
+unfolding commandOf replying if_then_else_
 returns-8 c = rw (← (c .before .before .before .before .before .before .before .before .read-header .ensures), c .before .before .before .before .before .before .match .keys8, ← (rw (drop-cut 16 (c .before .before .before .before .before .before .before .before .before .before .before .before .before .before .args .pdu .now)) at (c .before .before .before .before .read-plain .ensures)), ← (c .before .before .before .link .ensures), c .spoken3 .ensures)
 
 same-length-13 : tie.Need-same-length-13
 same-length-13 c = search needs
 
 returns-9 : tie.Need-returns-9
-unfolding boundCommand replying if_then_else_
-returns-9 c = rw (← (c .before .before .before .before .before .before .before .before .read-header .ensures), ne-eqb _ _ (c .before .before .before .before .before .before .match .rest .0 .0 .0 .0 .0 .0 .0 .1), ne-eqb _ _ (c .before .before .before .before .before .before .match .rest .0 .0 .0 .0 .0 .0 .1), ne-eqb _ _ (c .before .before .before .before .before .before .match .rest .0 .0 .0 .0 .0 .1), ne-eqb _ _ (c .before .before .before .before .before .before .match .rest .0 .0 .0 .0 .1), ne-eqb _ _ (c .before .before .before .before .before .before .match .rest .0 .0 .0 .1), ne-eqb _ _ (c .before .before .before .before .before .before .match .rest .0 .0 .1), ne-eqb _ _ (c .before .before .before .before .before .before .match .rest .0 .1), ne-eqb _ _ (c .before .before .before .before .before .before .match .rest .1), lt-leb _ _ (c .before .before .before .before .before .if1 .taken), ← (c .before .before .before .unknown .ensures), c .spoken4 .ensures)
+unfolding replying
+returns-9 c = rw (← (c .before .before .before .before .before .before .before .before .read-header .ensures), unknown-command _ (c .before .before .before .before .before .if1 .taken) (c .before .before .before .before .before .before .match .rest .0 .0 .0 .0 .0 .0 .0 .1) (c .before .before .before .before .before .before .match .rest .0 .0 .0 .0 .0 .0 .1) (c .before .before .before .before .before .before .match .rest .0 .0 .0 .0 .0 .1) (c .before .before .before .before .before .before .match .rest .0 .0 .0 .0 .1) (c .before .before .before .before .before .before .match .rest .0 .0 .0 .1) (c .before .before .before .before .before .before .match .rest .0 .0 .1) (c .before .before .before .before .before .before .match .rest .0 .1) (c .before .before .before .before .before .before .match .rest .1), ← (c .before .before .before .unknown .ensures), c .spoken4 .ensures)
 
 returns-10 : tie.Need-returns-10
-unfolding boundCommand replying if_then_else_
-returns-10 c = rw (← (c .before .before .before .before .read-header .ensures), ne-eqb _ _ (c .before .before .match .rest .0 .0 .0 .0 .0 .0 .0 .1), ne-eqb _ _ (c .before .before .match .rest .0 .0 .0 .0 .0 .0 .1), ne-eqb _ _ (c .before .before .match .rest .0 .0 .0 .0 .0 .1), ne-eqb _ _ (c .before .before .match .rest .0 .0 .0 .0 .1), ne-eqb _ _ (c .before .before .match .rest .0 .0 .0 .1), ne-eqb _ _ (c .before .before .match .rest .0 .0 .1), ne-eqb _ _ (c .before .before .match .rest .0 .1), ne-eqb _ _ (c .before .before .match .rest .1), le-leb _ _ (c .before .if1 .left), c .spoken5 .ensures)
+unfolding replying
+returns-10 c = rw (← (c .before .before .before .before .read-header .ensures), response-command _ (c .before .if1 .left), c .spoken5 .ensures)
 
 pub command-spec : {M : Type 1} → statement M
 command-spec =

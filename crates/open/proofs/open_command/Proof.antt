@@ -1,7 +1,7 @@
 -- `open::open_command` meets its contract. Assumes nothing.
-use borrow.Author.Tests.{ne-eqb, le-leb, lt-leb}
 use Rattle.octets.specs.Choice.{if_then_else_}
-use Rattle.open.specs.Open.{openCommand}
+use Rattle.wire.specs.Command.{commandOf}
+use Rattle.wire.proofs.CommandLaws.{response-command, unknown-command}
 use borrow.Author.Needs.{needs}
 use Rattle.open.proofs.open_command.Statement.{statement}
 use Rattle.open.proofs.open_command.Tie as tie
@@ -64,68 +64,66 @@ same-length : tie.Need-same-length
 same-length c = search needs
 
 returns : tie.Need-returns
-unfolding openCommand if_then_else_
+unfolding commandOf if_then_else_
 returns c = rw (c .before .before .before .before .match .keys1) (c .before .before .open-bind .ensures)
 
 same-length-2 : tie.Need-same-length-2
 same-length-2 c = search needs
 
 returns-2 : tie.Need-returns-2
-unfolding openCommand if_then_else_
+unfolding commandOf if_then_else_
 returns-2 c = rw (c .before .before .before .before .match .keys2) (c .before .before .open-bind2 .ensures)
 
 same-length-3 : tie.Need-same-length-3
 same-length-3 c = search needs
 
 returns-3 : tie.Need-returns-3
-unfolding openCommand if_then_else_
+unfolding commandOf if_then_else_
 returns-3 c = rw (c .before .before .before .before .before .match .keys3, ← (c .before .before .before .no-query .ensures), c .stay .ensures)
 
 same-length-4 : tie.Need-same-length-4
 same-length-4 c = search needs
 
 returns-4 : tie.Need-returns-4
-unfolding openCommand if_then_else_
+unfolding commandOf if_then_else_
 returns-4 c = rw (c .before .before .before .before .before .match .keys4, ← (c .before .before .before .no-submission .ensures), c .stay2 .ensures)
 
 same-length-5 : tie.Need-same-length-5
 same-length-5 c = search needs
 
 returns-5 : tie.Need-returns-5
-unfolding openCommand if_then_else_
+unfolding commandOf if_then_else_
 returns-5 c = rw (c .before .before .before .before .before .match .keys5, ← (c .before .before .before .wrong-state .ensures), c .stay3 .ensures)
 
 same-length-6 : tie.Need-same-length-6
 same-length-6 c = search needs
 
 returns-6 : tie.Need-returns-6
-unfolding openCommand if_then_else_
+unfolding commandOf if_then_else_
 returns-6 c = rw (c .before .before .before .before .before .match .keys6, ← (c .before .before .before .wrong-state2 .ensures), c .stay4 .ensures)
 
 same-length-7 : tie.Need-same-length-7
 same-length-7 c = search needs
 
 returns-7 : tie.Need-returns-7
-unfolding openCommand if_then_else_
+unfolding commandOf if_then_else_
 returns-7 c = rw (c .before .before .before .before .before .match .keys7, ← (c .before .before .before .wrong-state3 .ensures), c .stay5 .ensures)
 
 same-length-8 : tie.Need-same-length-8
 same-length-8 c = search needs
 
 returns-8 : tie.Need-returns-8
-unfolding openCommand if_then_else_
+unfolding commandOf if_then_else_
 returns-8 c = rw (c .before .before .before .before .before .before .match .keys8, ← (c .before .before .before .before .read-plain .ensures), ← (c .before .before .before .link .ensures), c .stay6 .ensures)
 
 same-length-9 : tie.Need-same-length-9
 same-length-9 c = search needs
 
 returns-9 : tie.Need-returns-9
-unfolding openCommand if_then_else_
-returns-9 c = rw (ne-eqb _ _ (c .before .before .before .before .before .before .match .rest .0 .0 .0 .0 .0 .0 .0 .1), ne-eqb _ _ (c .before .before .before .before .before .before .match .rest .0 .0 .0 .0 .0 .0 .1), ne-eqb _ _ (c .before .before .before .before .before .before .match .rest .0 .0 .0 .0 .0 .1), ne-eqb _ _ (c .before .before .before .before .before .before .match .rest .0 .0 .0 .0 .1), ne-eqb _ _ (c .before .before .before .before .before .before .match .rest .0 .0 .0 .1), ne-eqb _ _ (c .before .before .before .before .before .before .match .rest .0 .0 .1), ne-eqb _ _ (c .before .before .before .before .before .before .match .rest .0 .1), ne-eqb _ _ (c .before .before .before .before .before .before .match .rest .1), lt-leb _ _ (c .before .before .before .before .before .if1 .taken), ← (c .before .before .before .unknown .ensures), c .stay7 .ensures)
+returns-9 c = rw (unknown-command _ (c .before .before .before .before .before .if1 .taken) (c .before .before .before .before .before .before .match .rest .0 .0 .0 .0 .0 .0 .0 .1) (c .before .before .before .before .before .before .match .rest .0 .0 .0 .0 .0 .0 .1) (c .before .before .before .before .before .before .match .rest .0 .0 .0 .0 .0 .1) (c .before .before .before .before .before .before .match .rest .0 .0 .0 .0 .1) (c .before .before .before .before .before .before .match .rest .0 .0 .0 .1) (c .before .before .before .before .before .before .match .rest .0 .0 .1) (c .before .before .before .before .before .before .match .rest .0 .1) (c .before .before .before .before .before .before .match .rest .1), ← (c .before .before .before .unknown .ensures), c .stay7 .ensures)
 
 returns-10 : tie.Need-returns-10
-unfolding openCommand if_then_else_
-returns-10 c = rw (ne-eqb _ _ (c .before .before .match .rest .0 .0 .0 .0 .0 .0 .0 .1), ne-eqb _ _ (c .before .before .match .rest .0 .0 .0 .0 .0 .0 .1), ne-eqb _ _ (c .before .before .match .rest .0 .0 .0 .0 .0 .1), ne-eqb _ _ (c .before .before .match .rest .0 .0 .0 .0 .1), ne-eqb _ _ (c .before .before .match .rest .0 .0 .0 .1), ne-eqb _ _ (c .before .before .match .rest .0 .0 .1), ne-eqb _ _ (c .before .before .match .rest .0 .1), ne-eqb _ _ (c .before .before .match .rest .1), le-leb _ _ (c .before .if1 .left), c .stay8 .ensures)
+returns-10 c = rw (response-command _ (c .before .if1 .left), c .stay8 .ensures)
 
 pub open-command-spec : {M : Type 1} → statement M
 open-command-spec =

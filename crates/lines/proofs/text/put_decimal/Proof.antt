@@ -1,5 +1,4 @@
 -- `lines::text::put_decimal` meets its contract. Assumes nothing.
-use Prim.Native.Nat.{ℕ, _≤_}
 use mathlib.Core.Path.{_≡_}
 use native.Mathlib.Omega.{arith}
 use Rattle.lines.specs.Line.{decimal, widthFrom}
