@@ -7,7 +7,7 @@ use native.Mathlib.Nat.{div-div-eq-div-mul, div-add-mod', mod-eq-of-lt}
 use lib.ListN.{length, getD}
 use lib.Seq.{drop-cons}
 use Rattle.octets.specs.Stretch.{part}
-use Rattle.octets.specs.Number.{onto, number, octets4, hex8}
+use Rattle.octets.specs.Number.{onto, number, octets4}
 
 -- four octets, one by one
 pub four : (xs : List ℕ) (at : ℕ) → at + 4 ≤ length xs
@@ -26,10 +26,6 @@ number-four a b c d = omega arith
 pub octets4-length : (n : ℕ) → length (octets4 n) ≡ 4
 unfolding octets4
 octets4-length n = refl
-
-pub hex8-length : (n : ℕ) → length (hex8 n) ≡ 8
-unfolding hex8
-hex8-length n = refl
 
 -- a 32-bit number written is the number read
 pub number-octets4 : (n : ℕ) → n < 4294967296 → number (octets4 n) ≡ n

@@ -136,15 +136,6 @@ octet-before (x ∷ xs) zero ys i h = absurd (omega arith)
 octet-before (x ∷ xs) (suc at) ys zero h = refl
 octet-before (x ∷ xs) (suc at) ys (suc i) h = octet-before xs at ys i (omega arith)
 
-pub octet-after : (xs : List ℕ) (at : ℕ) (ys : List ℕ) (i : ℕ) → at + length ys ≤ i → getD (patch xs at ys) i 0 ≡ getD xs i 0
-unfolding patch
-octet-after [] at ys i h = refl
-octet-after (x ∷ xs) zero [] i h = refl
-octet-after (x ∷ xs) zero (y ∷ ys) zero h = absurd (omega arith)
-octet-after (x ∷ xs) zero (y ∷ ys) (suc i) h = octet-after xs zero ys i (omega arith)
-octet-after (x ∷ xs) (suc at) ys zero h = absurd (omega arith)
-octet-after (x ∷ xs) (suc at) ys (suc i) h = octet-after xs at ys i (omega arith)
-
 pub octet-inside : (xs : List ℕ) (at : ℕ) (ys : List ℕ) (i : ℕ) → i < length ys → at + i < length xs → getD (patch xs at ys) (at + i) 0 ≡ getD ys i 0
 unfolding patch
 octet-inside [] at ys i h k = absurd (omega arith)
@@ -160,16 +151,6 @@ unfolding patch
 drop-patch xs zero at ys = rw (zero-add at)
 drop-patch [] (suc n) at ys = refl
 drop-patch (x ∷ xs) (suc n) at ys = rw (suc-add n at) (drop-patch xs n at ys)
-
--- the later of two in one place stands
-pub patch-again : (xs : List ℕ) (at : ℕ) (ys zs : List ℕ) → length ys ≡ length zs → patch (patch xs at ys) at zs ≡ patch xs at zs
-unfolding patch
-patch-again [] at ys zs e = refl
-patch-again (x ∷ xs) zero [] [] e = refl
-patch-again (x ∷ xs) zero [] (z ∷ zs) e = absurd (omega arith)
-patch-again (x ∷ xs) zero (y ∷ ys) [] e = absurd (omega arith)
-patch-again (x ∷ xs) zero (y ∷ ys) (z ∷ zs) e = ap (λ (l : List ℕ). z ∷ l) (patch-again xs zero ys zs (omega arith))
-patch-again (x ∷ xs) (suc at) ys zs e = ap (λ (l : List ℕ). x ∷ l) (patch-again xs at ys zs e)
 
 -- a part put back as it was changes nothing
 pub patch-none : (xs : List ℕ) (at n : ℕ) → patch xs at (part at n xs) ≡ xs

@@ -3,7 +3,7 @@ use mathlib.Core.Path.{_≡_, refl, sym, ap, _∙_}
 use mathlib.Core.List.{List, [], _∷_}
 use Prim.Native.Nat.{ℕ, zero, suc, _+_, _-_, _*_, _≤_, _<_}
 use native.Mathlib.Omega.{arith}
-use native.Mathlib.Nat.{mul-suc, mul-zero, sub-zero}
+use native.Mathlib.Nat.{mul-suc, mul-zero}
 use lib.ListN.{length, take, drop, getD, set, length-drop}
 use lib.Seq.{drop-drop}
 use Rattle.octets.specs.Stretch.{part, patch}
@@ -14,9 +14,6 @@ pub rows-length : (size count : ℕ) (xs : List ℕ) → length (rows size count
 unfolding rows
 rows-length size zero xs = refl
 rows-length size (suc count) xs = ap suc (rows-length size count (drop size xs))
-
-pub rows-start : (size count : ℕ) (xs : List ℕ) → rowsFrom size count 0 xs ≡ rows size count xs
-rows-start size count xs = rw (sub-zero count, mul-zero size)
 
 -- the record at k, and those behind it
 pub rows-more : (size count k : ℕ) (xs : List ℕ) → k < count → rowsFrom size count k xs ≡ part (size * k) size xs ∷ rowsFrom size count (k + 1) xs

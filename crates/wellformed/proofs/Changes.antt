@@ -200,9 +200,6 @@ module _ (default : ℕ) (text r : List ℕ) where
           unused = ap zeros (ap₂ drop n t ∙ drop-append-seam text (replicate (140 - length text) 0)) ∙ every-replicate isZero (140 - length text) 0 refl;
         }
 
-    pub retexted-state : stateOf (retexted default text r) ≡ stateOf r
-    retexted-state = inner-state r (retexted default text r) (before-text 0 57 (omega arith)) behind-text
-
     pub retexted-id : idOf (retexted default text r) ≡ idOf r
     retexted-id = inner-id r (retexted default text r) (before-text 0 57 (omega arith)) behind-text
 
@@ -280,10 +277,6 @@ module _ (c : Correction) (text r : List ℕ) where
     flag =
         same-octet 0 91 three r′ (before-text (c .default) text three 0 91 (omega arith)) 89 (omega arith)
         ∙ octet-inside two 89 (c .registered ∷ []) 0 (omega arith) (omega (arith, three-length, patch-length two 89 (c .registered ∷ [])))
-
-    pub corrected-state : stateOf (corrected c text r) ≡ stateOf r
-    unfolding r′
-    corrected-state = inner-state r r′ front-kept behind-kept
 
     pub corrected-id : idOf (corrected c text r) ≡ idOf r
     unfolding r′

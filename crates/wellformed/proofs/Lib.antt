@@ -2,7 +2,6 @@ pub mod Cases
 pub mod Lengths
 pub mod Refused
 pub mod TextFields
-pub mod Accepted
 pub mod RulesHold
 pub mod GoodIs
 pub mod Changes

@@ -8,7 +8,7 @@ use native.Mathlib.Omega.{arith}
 use lib.ListN.{length, length-take}
 use Rattle.wire.specs.Fields.{octetsOf}
 use Rattle.forms.specs.declared.text.Form.the-variants.{Ascii}
-use Rattle.records.specs.Layout.{recordSize, stateOf, idOf}
+use Rattle.records.specs.Layout.{recordSize, idOf}
 use Rattle.records.specs.Book.{bookRecordSize, usedOk}
 use Rattle.source.specs.Source.{noAddress}
 use Rattle.submit.specs.Submit.{fieldsOf}
@@ -18,7 +18,7 @@ use Rattle.wellformed.specs.Good.{Good, GoodFields}
 use Rattle.wellformed.proofs.TextFields.{padded-field}
 use Rattle.wellformed.proofs.RulesHold.{submit-holds}
 use Rattle.wellformed.proofs.Sources.{source-within, source-length, source-ok, given-address}
-use Rattle.wellformed.proofs.NewRecord.{new-length, new-state, new-id, new-good}
+use Rattle.wellformed.proofs.NewRecord.{new-length, new-id, new-good}
 
 -- a text is no longer than its span
 pub span-length : (span : Span) (body : List ℕ) → length (octetsOf span body) ≤ span .len
@@ -60,9 +60,6 @@ module _ (book body : List ℕ) where
         }
 
     module _ (id : ℕ) where
-      pub submission-state : stateOf (submittedRecord book body id) ≡ 1
-      submission-state = new-state id _ _ _ submission-fields
-
       pub submission-id : id < 4294967296 → idOf (submittedRecord book body id) ≡ id
       submission-id = new-id id _ _ _ submission-fields
 
