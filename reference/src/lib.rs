@@ -18,5 +18,6 @@ pub mod printing;
 pub mod proved;
 pub mod random;
 pub mod recorded;
+pub mod refusals;
 pub mod script;
 pub mod wrapper;

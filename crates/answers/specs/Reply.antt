@@ -5,6 +5,7 @@ use lib.ListN.{length, drop}
 use Rattle.octets.specs.Number.{octets4, hex8}
 use Rattle.forms.specs.declared.text.MessageId.{MessageId}
 use Rattle.forms.specs.declared.text.MessageId.the-variants.{Empty, Number}
+use Rattle.wire.specs.Command.{responseTo}
 
 -- command_length, command_id, command_status, sequence_number
 unfoldable pub header : ℕ → ℕ → ℕ → ℕ → List ℕ
@@ -13,15 +14,15 @@ header size id status sequence = octets4 size ++ (octets4 id ++ (octets4 status 
 unfoldable pub reply : ℕ → ℕ → ℕ → List ℕ → List ℕ
 reply id status sequence body = header (16 + length body) id status sequence ++ body
 
--- a reply's id is the request's plus 0x80000000; generic_nak answers what has no request's id or length
+-- generic_nak answers what has no request's id or length; the two replies that only one request has
 abbrev pub genericNak : ℕ
 genericNak = 0x80000000
 
 abbrev pub submitResponse : ℕ
-submitResponse = 0x80000004
+submitResponse = responseTo 4
 
 abbrev pub queryResponse : ℕ
-queryResponse = 0x80000003
+queryResponse = responseTo 3
 
 -- the longest reply: a query's, 16 + 9 + 17 + 2
 abbrev pub spaceNeeded : ℕ

@@ -10,7 +10,7 @@ use Rattle.forms.specs.declared.text.MessageId.the-variants.{Empty, Number}
 use Rattle.forms.specs.Field.{textOf}
 use Rattle.wire.specs.Status.{invalidCommandId, invalidBindStatus, alreadyBound}
 use Rattle.wire.specs.Frame.{frameOf, headerOf}
-use Rattle.wire.specs.Command.{Command, BindReceiver, BindTransmitter, QuerySm, SubmitSm, Unbind, ReplaceSm, CancelSm, EnquireLink, Response, Unknown, commandOf}
+use Rattle.wire.specs.Command.{Command, BindReceiver, BindTransmitter, QuerySm, SubmitSm, Unbind, ReplaceSm, CancelSm, EnquireLink, Response, Unknown, responseTo, commandOf}
 use Rattle.answers.specs.Reply.{genericNak, noBody, bindBody, submitBody, queryBody, noQuery}
 use Rattle.wire.specs.declared.frame.Frame.{Frame}
 use Rattle.wire.specs.declared.frame.Frame.the-variants.{More, Malformed, Whole}
@@ -38,12 +38,12 @@ pub record Turn : Type 0 where
   pub ends : Bool
 
 -- the account stays as it was
-abbrev pub refusing : ℕ → List ℕ → List ℕ → ℕ → Turn
-refusing status body part last = record { status = status; body = body; part = part; last = last; ends = false }
+abbrev pub staying : ℕ → List ℕ → List ℕ → ℕ → Turn
+staying status body part last = record { status = status; body = body; part = part; last = last; ends = false }
 
 -- the four need transmitter, else 4
 abbrev pub byTransmitter : Bool → List ℕ → List ℕ → ℕ → Turn → Turn
-byTransmitter transmitter body part last turn = if transmitter then turn else refusing invalidBindStatus body part last
+byTransmitter transmitter body part last turn = if transmitter then turn else staying invalidBindStatus body part last
 
 unfoldable pub submitTurn : Bool → List ℕ → List ℕ → List ℕ → ℕ → Turn
 submitTurn transmitter book body part last =
@@ -63,7 +63,7 @@ unfoldable pub queryTurn : Bool → List ℕ → List ℕ → List ℕ → ℕ �
 queryTurn transmitter book body part last =
     let q = queried book body part in
     byTransmitter transmitter noQuery part last
-    (onFound (q .place) (λ k. refusing (q .status) (foundBody (recordAt k part)) part last) (refusing (q .status) noQuery part last))
+    (onFound (q .place) (λ k. staying (q .status) (foundBody (recordAt k part)) part last) (staying (q .status) noQuery part last))
 
 abbrev pub changing : Changed → ℕ → Turn
 changing c last = record { status = c .status; body = noBody; part = c .part; last = last; ends = false }
@@ -89,18 +89,19 @@ replying n id sequence t space =
 abbrev pub keeping : Answer → List ℕ → ℕ → Effect Answer
 keeping answer part last = record { answer = answer; part = part; last = last; ends = false }
 
--- the binds need open, else 5
-abbrev pub boundCommand : Bool → List ℕ → List ℕ → ℕ → ℕ → List ℕ → List ℕ → List ℕ → ℕ → Command → Effect Answer
-boundCommand transmitter book stamp n sequence body space part last BindReceiver = replying n 0x80000001 sequence (refusing alreadyBound bindBody part last) space
-boundCommand transmitter book stamp n sequence body space part last BindTransmitter = replying n 0x80000002 sequence (refusing alreadyBound bindBody part last) space
-boundCommand transmitter book stamp n sequence body space part last QuerySm = replying n 0x80000003 sequence (queryTurn transmitter book body part last) space
-boundCommand transmitter book stamp n sequence body space part last SubmitSm = replying n 0x80000004 sequence (submitTurn transmitter book body part last) space
-boundCommand transmitter book stamp n sequence body space part last Unbind = replying n 0x80000006 sequence (unbindTurn body part last) space
-boundCommand transmitter book stamp n sequence body space part last ReplaceSm = replying n 0x80000007 sequence (replaceTurn transmitter book body part last) space
-boundCommand transmitter book stamp n sequence body space part last CancelSm = replying n 0x80000008 sequence (cancelTurn transmitter book stamp body part last) space
-boundCommand transmitter book stamp n sequence body space part last EnquireLink = replying n 0x80000015 sequence (refusing (plainOf body) noBody part last) space
-boundCommand transmitter book stamp n sequence body space part last Response = keeping (silent n space) part last
-boundCommand transmitter book stamp n sequence body space part last Unknown = replying n genericNak sequence (refusing invalidCommandId noBody part last) space
+-- a PDU of n octets; the binds need open, else 5
+module _ (transmitter : Bool) (book stamp : List ℕ) (n sequence : ℕ) (body space part : List ℕ) (last : ℕ) where
+  abbrev pub boundCommand : Command → Effect Answer
+  boundCommand BindReceiver = replying n (responseTo 1) sequence (staying alreadyBound bindBody part last) space
+  boundCommand BindTransmitter = replying n (responseTo 2) sequence (staying alreadyBound bindBody part last) space
+  boundCommand QuerySm = replying n (responseTo 3) sequence (queryTurn transmitter book body part last) space
+  boundCommand SubmitSm = replying n (responseTo 4) sequence (submitTurn transmitter book body part last) space
+  boundCommand Unbind = replying n (responseTo 6) sequence (unbindTurn body part last) space
+  boundCommand ReplaceSm = replying n (responseTo 7) sequence (replaceTurn transmitter book body part last) space
+  boundCommand CancelSm = replying n (responseTo 8) sequence (cancelTurn transmitter book stamp body part last) space
+  boundCommand EnquireLink = replying n (responseTo 0x15) sequence (staying (plainOf body) noBody part last) space
+  boundCommand Response = keeping (silent n space) part last
+  boundCommand Unknown = replying n genericNak sequence (staying invalidCommandId noBody part last) space
 
 abbrev pub boundPdu : Bool → List ℕ → List ℕ → List ℕ → List ℕ → List ℕ → ℕ → Effect Answer
 boundPdu transmitter book stamp pdu space part last =

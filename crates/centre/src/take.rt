@@ -9,7 +9,7 @@ ghost use mathlib.Core.List.{List};
 ghost use lib.ListN.{length};
 ghost use Rattle.answers.specs.Reply.{spaceNeeded};
 ghost use Rattle.records.specs.Book.{bookSize};
-ghost use Rattle.session.specs.State.{sessionCount};
+ghost use Rattle.session.specs.State.{sessionCount, bound};
 ghost use Rattle.session.specs.declared.Entry.the-variants.{Open};
 ghost use Rattle.isolation.specs.Platform.{tableSize, Step, octetsOf, octetsOn};
 ghost use Rattle.octets.specs.Choice.{if_then_else_};
@@ -66,10 +66,16 @@ fn take_open(book: &[u8], state: State, session: usize, octets: &[u8], space: &m
     }
 }
 
-fn left(entry: Entry, ends: bool) -> Entry
-    ensures { λ r. ⌜ r ≡ (if ends then Entry.Ended else entry) ⌝ }
+// A session that ends, or goes on as it was.
+fn settle(state: State, session: usize, entry: Entry, ends: bool) -> State
+    requires { ⌜ session < sessionCount ⌝ }
+    ensures { λ r. ⌜ r ≡ bound state session (if ends then Entry.Ended else entry) ⌝ }
 {
-    if ends { Entry::Ended } else { entry }
+    if ends {
+        state.unbind(session)
+    } else {
+        state.bind(session, entry)
+    }
 }
 
 fn take_bound(
@@ -104,7 +110,7 @@ fn take_bound(
         &mut table[at..at + 4096],
         last,
     );
-    let kept = state.bind(session, left(entry, acted.ends));
+    let kept = settle(state, session, entry, acted.ends);
     let next = kept.issue(account, acted.last);
     Taken {
         number: acted.number,

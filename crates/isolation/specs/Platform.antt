@@ -1,5 +1,6 @@
 -- The platform, in general: sixteen sessions and eight accounts over one table, driven by steps. What a particular centre does is given by a
--- `Machine`; by the types of its parts, an account's function sees that account alone, and an open session's function sees no table.
+-- `Machine`; by the types of its parts, an account's function sees of table and last ids that account's own alone, and an open session's function
+-- sees no table.
 use Prim.Native.Nat.{ℕ, _*_}
 use mathlib.Core.Bool.{Bool}
 use mathlib.Core.List.{List}

@@ -9,7 +9,7 @@ use native.Mathlib.Numerals.{add-one}
 use lib.ListN.{length, take, drop, getD, set, length-take, length-drop, drop-of-length-le}
 use lib.Seq.{drop-cons, take-nil, take-all, take-take, drop-drop, drop-length}
 use lib.Dec.{eqb}
-use borrow.Author.Tests.{eq-eqb, eqb-true}
+use borrow.Author.Tests.{eqb-true}
 use Rattle.octets.specs.Choice.{if_then_else_}
 use Rattle.octets.specs.Stretch.{same, every, part}
 
@@ -112,11 +112,6 @@ same-lengths (x ∷ xs) [] ne = refl
 same-lengths (x ∷ xs) (y ∷ ys) ne = rw (same-lengths xs ys (λ e. ne (ap suc e))) (and-false (eqb x y))
 
 -- `same` is equality
-pub same-self : (a : List ℕ) → same a a ≡ true
-unfolding same
-same-self [] = refl
-same-self (x ∷ xs) = and-both (eqb x x) (same xs xs) (eq-eqb x x refl) (same-self xs)
-
 pub same-equal : (a b : List ℕ) → same a b ≡ true → a ≡ b
 unfolding same
 same-equal [] [] h = refl

@@ -8,7 +8,7 @@ use Rattle.octets.specs.Choice.{if_then_else_}
 use Rattle.forms.specs.declared.text.MessageId.the-variants.{Empty}
 use Rattle.wire.specs.Status.{invalidCommandId, invalidBindStatus, invalidPassword}
 use Rattle.wire.specs.Frame.{frameOf, headerOf}
-use Rattle.wire.specs.Command.{Command, BindReceiver, BindTransmitter, QuerySm, SubmitSm, Unbind, ReplaceSm, CancelSm, EnquireLink, Response, Unknown, commandOf}
+use Rattle.wire.specs.Command.{Command, BindReceiver, BindTransmitter, QuerySm, SubmitSm, Unbind, ReplaceSm, CancelSm, EnquireLink, Response, Unknown, responseTo, commandOf}
 use Rattle.wire.specs.Fields.{octetsOf}
 use Rattle.answers.specs.Reply.{genericNak, noBody, bindBody, submitBody, noQuery}
 use Rattle.wire.specs.declared.frame.Frame.{Frame}
@@ -54,18 +54,19 @@ openBind receiver id book n sequence body space =
     let b = bindTo receiver book body in
     record { answer = repliedTo n id (b .status) sequence bindBody space; after = b .entry }
 
--- the binds need open; enquire_link suits any live session; the others need a bound session, else 4
-abbrev pub openCommand : List ℕ → ℕ → ℕ → List ℕ → List ℕ → Command → Front Answer
-openCommand book n sequence body space BindReceiver = openBind true 0x80000001 book n sequence body space
-openCommand book n sequence body space BindTransmitter = openBind false 0x80000002 book n sequence body space
-openCommand book n sequence body space QuerySm = stays (repliedTo n 0x80000003 invalidBindStatus sequence noQuery space)
-openCommand book n sequence body space SubmitSm = stays (repliedTo n 0x80000004 invalidBindStatus sequence (submitBody Empty) space)
-openCommand book n sequence body space Unbind = stays (repliedTo n 0x80000006 invalidBindStatus sequence noBody space)
-openCommand book n sequence body space ReplaceSm = stays (repliedTo n 0x80000007 invalidBindStatus sequence noBody space)
-openCommand book n sequence body space CancelSm = stays (repliedTo n 0x80000008 invalidBindStatus sequence noBody space)
-openCommand book n sequence body space EnquireLink = stays (repliedTo n 0x80000015 (plainOf body) sequence noBody space)
-openCommand book n sequence body space Response = stays (silent n space)
-openCommand book n sequence body space Unknown = stays (repliedTo n genericNak invalidCommandId sequence noBody space)
+-- a PDU of n octets; the binds need open; enquire_link suits any live session; the others need a bound session, else 4
+module _ (book : List ℕ) (n sequence : ℕ) (body space : List ℕ) where
+  abbrev pub openCommand : Command → Front Answer
+  openCommand BindReceiver = openBind true (responseTo 1) book n sequence body space
+  openCommand BindTransmitter = openBind false (responseTo 2) book n sequence body space
+  openCommand QuerySm = stays (repliedTo n (responseTo 3) invalidBindStatus sequence noQuery space)
+  openCommand SubmitSm = stays (repliedTo n (responseTo 4) invalidBindStatus sequence (submitBody Empty) space)
+  openCommand Unbind = stays (repliedTo n (responseTo 6) invalidBindStatus sequence noBody space)
+  openCommand ReplaceSm = stays (repliedTo n (responseTo 7) invalidBindStatus sequence noBody space)
+  openCommand CancelSm = stays (repliedTo n (responseTo 8) invalidBindStatus sequence noBody space)
+  openCommand EnquireLink = stays (repliedTo n (responseTo 0x15) (plainOf body) sequence noBody space)
+  openCommand Response = stays (silent n space)
+  openCommand Unknown = stays (repliedTo n genericNak invalidCommandId sequence noBody space)
 
 abbrev pub openPdu : List ℕ → List ℕ → List ℕ → Front Answer
 openPdu book pdu space =

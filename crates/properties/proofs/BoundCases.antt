@@ -18,7 +18,7 @@ use Rattle.account.specs.Cancel.{cancelled}
 use Rattle.account.specs.Replace.{replaced}
 use Rattle.isolation.specs.Platform.{Effect}
 use Rattle.answers.specs.Answer.{nakLength, Octets, Answer, taken, refusedOctets, silent}
-use Rattle.bound.specs.Bound.{Turn, refusing, foundBody, submitTurn, queryTurn, changing, cancelTurn, replaceTurn, unbindTurn, replying, keeping, boundCommand, boundFrame, onBound}
+use Rattle.bound.specs.Bound.{Turn, staying, foundBody, submitTurn, queryTurn, changing, cancelTurn, replaceTurn, unbindTurn, replying, keeping, boundCommand, boundFrame, onBound}
 use Rattle.wellformed.proofs.Cases.{found-cases}
 
 module _ (book : List ℕ) (x : Octets) (part : List ℕ) (last : ℕ) where
@@ -43,7 +43,7 @@ module _ (book : List ℕ) (x : Octets) (part : List ℕ) (last : ℕ) where
     query-cases body =
         let q = queried book body part in
         if-cases Q _ _ _
-        (λ _. found-cases Q (q .place) (λ k. refusing (q .status) (foundBody (recordAt k part)) part last) (refusing (q .status) noQuery part last)
+        (λ _. found-cases Q (q .place) (λ k. staying (q .status) (foundBody (recordAt k part)) part last) (staying (q .status) noQuery part last)
         (λ k _. turns .same _ _ _) (λ _. turns .same _ _ _))
         (λ _. turns .same _ _ _)
 

@@ -25,7 +25,7 @@ use Rattle.isolation.specs.Platform.{World, Effect, Front, Ran, octetsOn, step}
 use Rattle.wellformed.proofs.Cases.{found-cases}
 use Rattle.answers.specs.Answer.{Octets, Answer, repliedTo}
 use Rattle.open.specs.Open.{openBind, openCommand, openFrame, onOpen}
-use Rattle.bound.specs.Bound.{Turn, refusing, foundBody, wireState, submitTurn, queryTurn, cancelTurn, replaceTurn, unbindTurn, replying, boundCommand, boundFrame, onBound}
+use Rattle.bound.specs.Bound.{Turn, staying, foundBody, wireState, submitTurn, queryTurn, cancelTurn, replaceTurn, unbindTurn, replying, boundCommand, boundFrame, onBound}
 use Rattle.centre.specs.Centre.{centre, act}
 use Rattle.properties.specs.Property1.{writtenOf}
 use Rattle.properties.specs.Longest.{Longest}
@@ -55,7 +55,7 @@ module _ (transmitter : Bool) (book stamp body part : List ℕ) (last : ℕ) whe
   query-brief =
       let q = queried book body part in
       if-cases Brief _ _ _
-      (λ _. found-cases Brief (q .place) (λ k. refusing (q .status) (foundBody (recordAt k part)) part last) (refusing (q .status) noQuery part last)
+      (λ _. found-cases Brief (q .place) (λ k. staying (q .status) (foundBody (recordAt k part)) part last) (staying (q .status) noQuery part last)
       (λ k _. found-brief (recordAt k part)) (λ _. none-brief))
       (λ _. none-brief)
 

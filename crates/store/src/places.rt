@@ -8,8 +8,6 @@ ghost use Rattle.store.specs.Places.{recordAt, none, foundOf};
 
 pub const RECORD_SIZE: usize = 256;
 
-pub const PLACES: usize = 16;
-
 // A place, or absent.
 pub enum Found {
     At(usize),

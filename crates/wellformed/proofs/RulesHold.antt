@@ -27,10 +27,8 @@ use Rattle.wire.specs.declared.fields.SpanRead.{SpanRead}
 use Rattle.wire.specs.declared.fields.TimeRead.{TimeRead}
 use Rattle.wire.proofs.FieldLaws.{inside, octet-within, span-within, short-within}
 use Rattle.requests.specs.Submit.{submitOf}
-use Rattle.requests.specs.Query.{queryOf}
-use Rattle.requests.specs.Cancel.{cancelOf}
 use Rattle.requests.specs.Replace.{replaceOf}
-use Rattle.wellformed.specs.Rules.{Text, Addressed, Timed, Worded, SubmitHolds, QueryHolds, CancelHolds, ReplaceHolds}
+use Rattle.wellformed.specs.Rules.{Text, Addressed, Timed, Worded, SubmitHolds, ReplaceHolds}
 use Rattle.wellformed.proofs.TextFields.{padded-length, padded-field, every-lead}
 
 -- ---- a text of fewer than `most` octets, where none is a text of the form
@@ -145,15 +143,6 @@ submit-holds body =
       replace = octet-within 1 _ body _;
       words = words-hold _ body _ (octet-within 100 _ body _);
     }
-
-pub query-holds : (body : List ℕ) → QueryHolds (queryOf body .request)
-unfolding queryOf
-query-holds body = record { source = address-holds _ body _ }
-
-pub cancel-holds : (body : List ℕ) → CancelHolds (cancelOf body .request) body
-unfolding cancelOf formed every
-cancel-holds body =
-    record { service = text-holds Ascii 5 6 _ body _ refl refl; source = address-holds _ body _; destination = address-holds _ body _ }
 
 pub replace-holds : (body : List ℕ) → ReplaceHolds (replaceOf body .request) body
 unfolding replaceOf

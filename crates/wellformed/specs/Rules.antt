@@ -16,8 +16,6 @@ use Rattle.forms.specs.declared.text.Form.the-variants.{Ascii, AddressOrNone}
 use Rattle.wire.specs.Fields.{Inside, octetsOf, longestText}
 use Rattle.wire.specs.declared.fields.Span.{Span}
 use Rattle.requests.specs.declared.submit.Submit.{Submit}
-use Rattle.requests.specs.declared.query.Query.{Query}
-use Rattle.requests.specs.declared.cancel.Cancel.{Cancel}
 use Rattle.requests.specs.declared.replace.Replace.{Replace}
 
 -- a text of at most n octets in the body, without a NUL, well formed
@@ -54,14 +52,6 @@ pub record SubmitHolds (s : Submit) (body : List ℕ) : Type 0 where
   pub registered : s .registered ≤ 1
   pub replace : s .replace ≤ 1
   pub words : Worded (s .default) (s .text) body
-
-pub record QueryHolds (q : Query) : Type 0 where
-  pub source : Addressed (q .source .octets)
-
-pub record CancelHolds (c : Cancel) (body : List ℕ) : Type 0 where
-  pub service : Text Ascii 5 (c .service) body
-  pub source : Addressed (c .source .octets)
-  pub destination : Addressed (c .destination .octets)
 
 pub record ReplaceHolds (r : Replace) (body : List ℕ) : Type 0 where
   pub source : Addressed (r .source .octets)

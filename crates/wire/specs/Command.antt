@@ -1,5 +1,5 @@
 -- What a command id asks for (document 01, "From octets to a response"; 002, 7.2).
-use Prim.Native.Nat.{ℕ}
+use Prim.Native.Nat.{ℕ, _+_}
 use lib.Dec.{leb, eqb}
 use Rattle.octets.specs.Choice.{if_then_else_}
 
@@ -17,6 +17,10 @@ pub data Command : Type 0 where
 
 abbrev pub firstResponse : ℕ
 firstResponse = 0x80000000
+
+-- a reply's id is the request's plus 0x80000000
+abbrev pub responseTo : ℕ → ℕ
+responseTo id = id + firstResponse
 
 -- a command id with its top bit set is a response; the request ids; any other
 unfoldable pub commandOf : ℕ → Command

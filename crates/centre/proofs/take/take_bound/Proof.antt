@@ -46,11 +46,8 @@ part-on-bound-end c = search needs
 on-bound-requires : tie.Need-on-bound-requires
 on-bound-requires c κs = search needs
 
-left-requires : tie.Need-left-requires
-left-requires c κs = search needs
-
-bind-requires : tie.Need-bind-requires
-bind-requires c κs = search needs
+settle-requires : tie.Need-settle-requires
+settle-requires c κs = search needs
 
 issue-requires : tie.Need-issue-requires
 issue-requires c κs = search needs
@@ -63,14 +60,14 @@ same-length-2 c = search needs
 
 returns-2 : tie.Need-returns-2
 unfolding act if_then_else_
-returns-2 c = let at = 4096 * c .before .before .before .before .before .before .before .before .before .before .before .before .before .before .before .before .before .before .args .a in
-    let t = c .before .before .before .before .before .before .before .before .before .before .before .before .before .before .before .before .before .before .args .table .now in
-    let back = c .before .before .before .before .before .before .before .on-bound .last .1 .1 .1 .1 .1 .0 in
-    let r : Taken = record { number = c .before .before .before .before .before .before .before .on-bound .result .number; consumed = c .before .before .before .before .before .before .before .on-bound .result .consumed; written = c .before .before .before .before .before .before .before .on-bound .result .written; state = c .issue .result } in
-    let e = rw (add-sub-cancel-left at 4096) at (c .before .before .before .before .before .before .before .on-bound .ensures) in
-    let n : length back ≡ 4096 = (rw (add-sub-cancel-left at 4096) at (c .before .before .before .before .before .before .before .on-bound .kept .1 .1 .1 .1 .1 .0)) ∙ part-length at 4096 t (omega (arith, c .before .before .before .before .before .before .before .before .before .before .before .before .before .before .before .before .before .before .pre .0 .0 .1, c .before .before .before .before .before .before .before .before .before .before .before .before .if1 .left)) in
-    ap (λ (l : List ℕ). takes r l (c .before .before .before .before .before .before .before .on-bound .last .1 .1 .1 .1 .0)) (part-back t at 4096 back n (omega (arith, c .before .before .before .before .before .before .before .before .before .before .before .before .before .before .before .before .before .before .pre .0 .0 .1, c .before .before .before .before .before .before .before .before .before .before .before .before .if1 .left)))
-    ∙ rw (lt-ltb _ _ (c .before .before .before .before .before .before .before .before .before .before .before .before .if1 .left), c .before .before .before .before .before .before .before .before .before .before .before .before .before .before .before .before .before .before .pre .0 .1 .1, ← (c .before .before .before .before .before .before .before .before .before .before .before .record-of .ensures .0), ← (c .before .before .before .before .before .before .before .before .before .before .last .ensures), ← e, c .issue .ensures, c .before .bind .ensures, c .before .before .left .ensures)
+returns-2 c = let at = 4096 * c .before .before .before .before .before .before .before .before .before .before .before .before .before .before .before .before .before .args .a in
+    let t = c .before .before .before .before .before .before .before .before .before .before .before .before .before .before .before .before .before .args .table .now in
+    let back = c .before .before .before .before .before .before .on-bound .last .1 .1 .1 .1 .1 .0 in
+    let r : Taken = record { number = c .before .before .before .before .before .before .on-bound .result .number; consumed = c .before .before .before .before .before .before .on-bound .result .consumed; written = c .before .before .before .before .before .before .on-bound .result .written; state = c .issue .result } in
+    let e = rw (add-sub-cancel-left at 4096) at (c .before .before .before .before .before .before .on-bound .ensures) in
+    let n : length back ≡ 4096 = (rw (add-sub-cancel-left at 4096) at (c .before .before .before .before .before .before .on-bound .kept .1 .1 .1 .1 .1 .0)) ∙ part-length at 4096 t (omega (arith, c .before .before .before .before .before .before .before .before .before .before .before .before .before .before .before .before .before .pre .0 .0 .1, c .before .before .before .before .before .before .before .before .before .before .before .if1 .left)) in
+    ap (λ (l : List ℕ). takes r l (c .before .before .before .before .before .before .on-bound .last .1 .1 .1 .1 .0)) (part-back t at 4096 back n (omega (arith, c .before .before .before .before .before .before .before .before .before .before .before .before .before .before .before .before .before .pre .0 .0 .1, c .before .before .before .before .before .before .before .before .before .before .before .if1 .left)))
+    ∙ rw (lt-ltb _ _ (c .before .before .before .before .before .before .before .before .before .before .before .if1 .left), c .before .before .before .before .before .before .before .before .before .before .before .before .before .before .before .before .before .pre .0 .1 .1, ← (c .before .before .before .before .before .before .before .before .before .before .record-of .ensures .0), ← (c .before .before .before .before .before .before .before .before .before .last .ensures), ← e, c .issue .ensures, c .before .settle .ensures)
 
 pub take-bound-spec : {M : Type 1} → statement M
 take-bound-spec =
@@ -86,8 +83,7 @@ take-bound-spec =
     part-on-bound-start
     part-on-bound-end
     on-bound-requires
-    left-requires
-    bind-requires
+    settle-requires
     issue-requires
     same-length
     same-length-2
