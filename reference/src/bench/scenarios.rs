@@ -39,6 +39,11 @@ pub fn scenarios() -> Vec<Scenario> {
             sessions(|session| Step::Close { session }),
         ),
         scenario("bind_transmitter", opened(), sessions(bind)),
+        scenario(
+            "bind_receiver",
+            opened(),
+            sessions(|session| bind_as(Role::Receiver, session)),
+        ),
         scenario("unbind", bound(), sessions(|s| take(s, Request::Unbind))),
         scenario("enquire_link", submitted(), each(enquire)),
         scenario("submit_sm, empty place", bound(), each(submit)),
@@ -133,11 +138,15 @@ fn take(session: usize, request: Request) -> Step {
 }
 
 fn bind(session: usize) -> Step {
+    bind_as(Role::Transmitter, session)
+}
+
+fn bind_as(role: Role, session: usize) -> Step {
     let account = (session % ACCOUNTS) as u8;
     take(
         session,
         Request::Bind(Bind {
-            role: Role::Transmitter,
+            role,
             system_id: [&b"paging"[..], &[b'0' + account]].concat(),
             password: b"secret".to_vec(),
             system_type: b"VMA".to_vec(),
