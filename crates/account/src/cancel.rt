@@ -1,5 +1,6 @@
 // cancel_sm: one message by its id, or all that wait between two addresses.
 use forms::text::MessageId;
+use records::layout;
 use store::places::Found;
 use wire::status;
 ghost use mathlib.Core.Path.{_≡_};
@@ -17,8 +18,14 @@ fn is_cancellable(part: &[u8], k: usize, source: &[u8; 22], destination: &[u8; 2
     ensures { λ x. ⌜ x ≡ cancellable (now (source .entry)) (now (destination .entry)) (recordAt k (now (part .entry))) ⌝ }
 {
     let r = store::places::record_at(part, k);
-    let fits = (destination[2] == 0) | records::book::is_same_address(&r[27..49], destination);
-    records::book::is_same_address(&r[5..27], source) & fits & (r[0] == 1)
+    let fits = (destination[2] == 0)
+        | records::book::is_same_address(
+            &r[layout::DESTINATION..layout::SERVICE_TYPE],
+            destination,
+        );
+    records::book::is_same_address(&r[layout::SOURCE..layout::DESTINATION], source)
+        & fits
+        & (r[layout::STATE] == 1)
 }
 
 fn cancel_one(

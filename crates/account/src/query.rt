@@ -1,4 +1,5 @@
 // query_sm.
+use records::layout;
 use requests::query::Query;
 use store::places::Found;
 use wire::status;
@@ -31,7 +32,7 @@ fn look_up(book: &[u8], part: &[u8], q: Query) -> Asked
         };
     };
     let r = store::places::record_at(part, k);
-    if records::book::is_same_address(&r[5..27], &octets) {
+    if records::book::is_same_address(&r[layout::SOURCE..layout::DESTINATION], &octets) {
         Asked {
             status: status::OK,
             place: Found::At(k),

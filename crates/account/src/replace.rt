@@ -1,5 +1,6 @@
 // replace_sm.
 use changes::Correction;
+use records::layout;
 use requests::replace::Replace;
 use store::places::Found;
 use wire::fields;
@@ -21,7 +22,8 @@ fn is_replaceable(part: &[u8], k: usize, source: &[u8; 22]) -> bool
     ensures { λ r. ⌜ r ≡ (sameAddress (sourceOf (recordAt k (now (part .entry)))) (now (source .entry)) && waiting (recordAt k (now (part .entry)))) ⌝ }
 {
     let r = store::places::record_at(part, k);
-    records::book::is_same_address(&r[5..27], source) & (r[0] == 1)
+    records::book::is_same_address(&r[layout::SOURCE..layout::DESTINATION], source)
+        & (r[layout::STATE] == 1)
 }
 
 fn replace_in(part: &mut [u8], source: &[u8; 22], r: Replace, body: &[u8]) -> u8

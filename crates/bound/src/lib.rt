@@ -2,6 +2,7 @@
 use answers::fixed;
 use answers::reply;
 use forms::text::MessageId;
+use records::layout;
 use requests::plain;
 use session::number;
 use store::places::Found;
@@ -90,10 +91,10 @@ fn write_found(part: &[u8], k: usize, status: u8, sequence: u32, space: &mut [u8
     ensures { λ r. ⌜ wrote r (now (space .exit)) ≡ over (reply 0x80000003 status sequence (foundBody (recordAt k (now (part .entry))))) (now (space .entry)) ⌝ }
 {
     let r = store::places::record_at(part, k);
-    let id = octets::number::number_at(r, 1);
-    let date = forms::field::text_of(&r[233..249]);
-    let state = wire_state(r[0]);
-    let error = r[249];
+    let id = octets::number::number_at(r, layout::ID);
+    let date = forms::field::text_of(&r[layout::FINAL_DATE..layout::ERROR_CODE]);
+    let state = wire_state(r[layout::STATE]);
+    let error = r[layout::ERROR_CODE];
     reply::query(
         space,
         status,

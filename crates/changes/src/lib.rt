@@ -1,5 +1,5 @@
 // What is written into records: a new one, a final state, a new text, a correction.
-use store::places;
+use records::layout;
 ghost use mathlib.Core.Path.{_≡_};
 ghost use Prim.Native.Nat.{_+_, _≤_, _<_};
 ghost use mathlib.Core.List.{[], _∷_};
@@ -35,11 +35,11 @@ fn put_head(r: &mut [u8], id: u32, source: &[u8; 22], destination: &[u8; 22], se
     requires { ⌜ (length (now r) ≡ recordSize) × (length (now service) ≤ 5) ⌝ }
     ensures { λ _. ⌜ (now (r .exit) ≡ patch (now (r .entry)) 0 (head id (now (source .entry)) (now (destination .entry)) (now (service .entry)))) × (length (head id (now (source .entry)) (now (destination .entry)) (now (service .entry))) ≡ 49 + length (now (service .entry))) ⌝ }
 {
-    put_octet(r, 0, 1);
-    octets::number::put_number(r, 1, id);
-    octets::stretch::put(r, 5, source);
-    octets::stretch::put(r, 27, destination);
-    octets::stretch::put(r, 49, service);
+    put_octet(r, layout::STATE, 1);
+    octets::number::put_number(r, layout::ID, id);
+    octets::stretch::put(r, layout::SOURCE, source);
+    octets::stretch::put(r, layout::DESTINATION, destination);
+    octets::stretch::put(r, layout::SERVICE_TYPE, service);
 }
 
 // Octets 54 to 88: esm_class, protocol id and priority, both times.
@@ -47,9 +47,9 @@ fn put_terms(r: &mut [u8], flags: &[u8; 3], schedule: &[u8; 16], validity: &[u8;
     requires { ⌜ length (now r) ≡ recordSize ⌝ }
     ensures { λ _. ⌜ (now (r .exit) ≡ patch (now (r .entry)) 54 (terms (now (flags .entry)) (now (schedule .entry)) (now (validity .entry)))) × (length (terms (now (flags .entry)) (now (schedule .entry)) (now (validity .entry))) ≡ 35) ⌝ }
 {
-    octets::stretch::put(r, 54, flags);
-    octets::stretch::put(r, 57, schedule);
-    octets::stretch::put(r, 73, validity);
+    octets::stretch::put(r, layout::ESM_CLASS, flags);
+    octets::stretch::put(r, layout::SCHEDULE, schedule);
+    octets::stretch::put(r, layout::VALIDITY, validity);
 }
 
 // Octets 89 to 232: registered flag, data coding and default message id, length and text.
@@ -57,9 +57,9 @@ fn put_message(r: &mut [u8], flags: &[u8; 3], text: &[u8])
     requires { ⌜ (length (now r) ≡ recordSize) × (length (now text) ≤ 140) ⌝ }
     ensures { λ _. ⌜ (now (r .exit) ≡ patch (now (r .entry)) 89 (message (now (flags .entry)) (now (text .entry)))) × (length (now (flags .entry)) ≡ 3) ⌝ }
 {
-    octets::stretch::put(r, 89, flags);
-    put_octet(r, 92, text.len() as u8);
-    octets::stretch::put(r, 93, text);
+    octets::stretch::put(r, layout::REGISTERED, flags);
+    put_octet(r, layout::LENGTH, text.len() as u8);
+    octets::stretch::put(r, layout::TEXT, text);
 }
 
 // Puts a new record over whatever stands at place k.
@@ -77,16 +77,16 @@ pub fn put_new(part: &mut [u8], k: usize, id: u32, f: Fields, service: &[u8], te
     put_head(&mut record, id, &source, &destination, service);
     put_terms(&mut record, &before_times, &schedule, &validity);
     put_message(&mut record, &behind_times, text);
-    octets::stretch::put(part, places::RECORD_SIZE * k, &record);
+    octets::stretch::put(part, layout::RECORD_SIZE * k, &record);
 }
 
 fn finish_record(r: &mut [u8], state: u8, error: u8, stamp: &[u8])
     requires { ⌜ (length (now r) ≡ recordSize) × (length (now stamp) ≡ 16) ⌝ }
     ensures { λ _. ⌜ now (r .exit) ≡ finished state error (now (stamp .entry)) (now (r .entry)) ⌝ }
 {
-    put_octet(r, 0, state);
-    octets::stretch::put(r, 233, stamp);
-    put_octet(r, 249, error);
+    put_octet(r, layout::STATE, state);
+    octets::stretch::put(r, layout::FINAL_DATE, stamp);
+    put_octet(r, layout::ERROR_CODE, error);
 }
 
 // Gives the record at place k a final state.
@@ -94,8 +94,8 @@ pub fn finish(part: &mut [u8], k: usize, state: u8, error: u8, stamp: &[u8])
     requires { ⌜ ((length (now part) ≡ partSize) × (k < places)) × (length (now stamp) ≡ 16) ⌝ }
     ensures { λ _. ⌜ now (part .exit) ≡ onPlace (finished state error (now (stamp .entry))) k (now (part .entry)) ⌝ }
 {
-    let at = places::RECORD_SIZE * k;
-    finish_record(&mut part[at..at + places::RECORD_SIZE], state, error, stamp)
+    let at = layout::RECORD_SIZE * k;
+    finish_record(&mut part[at..at + layout::RECORD_SIZE], state, error, stamp)
 }
 
 // No old octets stay behind a shorter text.
@@ -106,8 +106,8 @@ fn retext_record(r: &mut [u8], default: u8, text: &[u8])
     let sizes = [default, text.len() as u8];
     let mut whole = [0u8; 140];
     octets::stretch::put(&mut whole, 0, text);
-    octets::stretch::put(r, 91, &sizes);
-    octets::stretch::put(r, 93, &whole);
+    octets::stretch::put(r, layout::DEFAULT_ID, &sizes);
+    octets::stretch::put(r, layout::TEXT, &whole);
 }
 
 // Gives the record at place k a new text.
@@ -115,8 +115,8 @@ pub fn retext(part: &mut [u8], k: usize, default: u8, text: &[u8])
     requires { ⌜ ((length (now part) ≡ partSize) × (k < places)) × (length (now text) ≤ 140) ⌝ }
     ensures { λ _. ⌜ now (part .exit) ≡ onPlace (retexted default (now (text .entry))) k (now (part .entry)) ⌝ }
 {
-    let at = places::RECORD_SIZE * k;
-    retext_record(&mut part[at..at + places::RECORD_SIZE], default, text)
+    let at = layout::RECORD_SIZE * k;
+    retext_record(&mut part[at..at + layout::RECORD_SIZE], default, text)
 }
 
 fn retime(r: &mut [u8], at: usize, time: &[u8; 16])
@@ -142,9 +142,9 @@ fn correct_record(r: &mut [u8], c: Correction, text: &[u8])
 {
     let schedule = c.schedule;
     let validity = c.validity;
-    retime(r, 57, &schedule);
-    retime(r, 73, &validity);
-    put_octet(r, 89, c.registered);
+    retime(r, layout::SCHEDULE, &schedule);
+    retime(r, layout::VALIDITY, &validity);
+    put_octet(r, layout::REGISTERED, c.registered);
     retext_record(r, c.default, text);
 }
 
@@ -153,6 +153,6 @@ pub fn correct(part: &mut [u8], k: usize, c: Correction, text: &[u8])
     requires { ⌜ ((length (now part) ≡ partSize) × (k < places)) × (length (now text) ≤ 140) ⌝ }
     ensures { λ _. ⌜ now (part .exit) ≡ onPlace (corrected c (now (text .entry))) k (now (part .entry)) ⌝ }
 {
-    let at = places::RECORD_SIZE * k;
-    correct_record(&mut part[at..at + places::RECORD_SIZE], c, text)
+    let at = layout::RECORD_SIZE * k;
+    correct_record(&mut part[at..at + layout::RECORD_SIZE], c, text)
 }

@@ -1,4 +1,5 @@
 // The test of one message record.
+use crate::layout;
 use forms::field;
 use forms::text::Form;
 ghost use mathlib.Core.Path.{_≡_};
@@ -30,9 +31,9 @@ fn is_text_ok(r: &[u8]) -> bool
     requires { ⌜ length (now r) ≡ recordSize ⌝ }
     ensures { λ ok. ⌜ ok ≡ textOk (now (r .entry)) ⌝ }
 {
-    let default = r[91];
-    let size = r[92];
-    let unused = octets::stretch::from(&r[93..233], size as usize);
+    let default = r[layout::DEFAULT_ID];
+    let size = r[layout::LENGTH];
+    let unused = octets::stretch::from(&r[layout::TEXT..layout::FINAL_DATE], size as usize);
     (default <= 100)
         & (size <= 140)
         & ((size == 0) | (default == 0))
@@ -43,13 +44,13 @@ fn are_fields_ok(r: &[u8]) -> bool
     requires { ⌜ length (now r) ≡ recordSize ⌝ }
     ensures { λ ok. ⌜ ok ≡ fieldsOk (now (r .entry)) ⌝ }
 {
-    is_address_ok(&r[5..27])
-        & is_address_ok(&r[27..49])
-        & field::is_field(&r[49..54], Form::Ascii)
-        & (r[56] <= 1)
-        & is_time_ok(&r[57..73])
-        & is_time_ok(&r[73..89])
-        & (r[89] <= 1)
+    is_address_ok(&r[layout::SOURCE..layout::DESTINATION])
+        & is_address_ok(&r[layout::DESTINATION..layout::SERVICE_TYPE])
+        & field::is_field(&r[layout::SERVICE_TYPE..layout::ESM_CLASS], Form::Ascii)
+        & (r[layout::PRIORITY] <= 1)
+        & is_time_ok(&r[layout::SCHEDULE..layout::VALIDITY])
+        & is_time_ok(&r[layout::VALIDITY..layout::REGISTERED])
+        & (r[layout::REGISTERED] <= 1)
         & is_text_ok(r)
 }
 
@@ -57,12 +58,12 @@ fn is_end_ok(r: &[u8]) -> bool
     requires { ⌜ length (now r) ≡ recordSize ⌝ }
     ensures { λ ok. ⌜ ok ≡ endOk (now (r .entry)) ⌝ }
 {
-    let state = r[0];
-    let error_fits = (r[249] == 0) | !((state == 1) | (state == 4));
+    let state = r[layout::STATE];
+    let error_fits = (r[layout::ERROR_CODE] == 0) | !((state == 1) | (state == 4));
     if state == 1 {
-        octets::stretch::all_zero(&r[233..249]) & error_fits
+        octets::stretch::all_zero(&r[layout::FINAL_DATE..layout::ERROR_CODE]) & error_fits
     } else {
-        forms::time::is_stored_time(&r[233..249]) & error_fits
+        forms::time::is_stored_time(&r[layout::FINAL_DATE..layout::ERROR_CODE]) & error_fits
     }
 }
 
@@ -70,11 +71,11 @@ fn is_message_ok(last: u32, r: &[u8]) -> bool
     requires { ⌜ length (now r) ≡ recordSize ⌝ }
     ensures { λ ok. ⌜ ok ≡ messageOk last (now (r .entry)) ⌝ }
 {
-    is_within(1, 5, octets::number::wide(r[0]))
-        & is_within(1, last, octets::number::number_at(r, 1))
+    is_within(1, 5, octets::number::wide(r[layout::STATE]))
+        & is_within(1, last, octets::number::number_at(r, layout::ID))
         & are_fields_ok(r)
         & is_end_ok(r)
-        & octets::stretch::all_zero(&r[250..256])
+        & octets::stretch::all_zero(&r[layout::SPARE..layout::RECORD_SIZE])
 }
 
 // The state octet tells which of the two a record has to be.
@@ -82,7 +83,7 @@ pub fn is_record_ok(last: u32, r: &[u8]) -> bool
     requires { ⌜ length (now r) ≡ recordSize ⌝ }
     ensures { λ ok. ⌜ ok ≡ recordOk last (now (r .entry)) ⌝ }
 {
-    if r[0] == 0 {
+    if r[layout::STATE] == 0 {
         octets::stretch::all_zero(r)
     } else {
         is_message_ok(last, r)

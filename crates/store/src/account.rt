@@ -1,6 +1,7 @@
 // The test of one account. A call makes it once.
 use crate::places;
 use records::book;
+use records::layout;
 use records::record;
 ghost use mathlib.Core.Path.{_≡_};
 ghost use Prim.Native.Nat.{_<_, _≤_, _+_};
@@ -32,7 +33,7 @@ fn is_other_id(id: u32, r: &[u8]) -> bool
     requires { ⌜ length (now r) ≡ recordSize ⌝ }
     ensures { λ x. ⌜ x ≡ otherId id (now (r .entry)) ⌝ }
 {
-    (r[0] == 0) | !(octets::number::number_at(r, 1) == id)
+    (r[layout::STATE] == 0) | !(octets::number::number_at(r, layout::ID) == id)
 }
 
 // Whether no record from place k on has the id.
@@ -55,10 +56,10 @@ fn is_apart(part: &[u8], k: usize) -> bool
     ensures { λ x. ⌜ x ≡ (isEmpty (recordAt k (now (part .entry))) || every (otherId (idOf (recordAt k (now (part .entry))))) (rowsFrom recordSize places (k + 1) (now (part .entry)))) ⌝ }
 {
     let r = places::record_at(part, k);
-    if r[0] == 0 {
+    if r[layout::STATE] == 0 {
         true
     } else {
-        is_free_from(part, k + 1, octets::number::number_at(r, 1))
+        is_free_from(part, k + 1, octets::number::number_at(r, layout::ID))
     }
 }
 

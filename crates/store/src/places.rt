@@ -1,12 +1,11 @@
 // The sixteen places of an account's part.
+use records::layout;
 ghost use mathlib.Core.Path.{_≡_};
 ghost use Prim.Native.Nat.{_<_};
 ghost use lib.ListN.{length};
 ghost use Rattle.records.specs.Layout.{recordSize, places, partSize, idOf};
 ghost use Rattle.store.specs.Search.{waiting};
 ghost use Rattle.store.specs.Places.{recordAt, none, foundOf};
-
-pub const RECORD_SIZE: usize = 256;
 
 // A place, or absent.
 pub enum Found {
@@ -48,8 +47,8 @@ pub fn record_at(part: &[u8], k: usize) -> &[u8]
     requires { ⌜ (length (now part) ≡ partSize) × (k < places) ⌝ }
     ensures { λ r. ⌜ (now r ≡ recordAt k (now (part .entry))) × (length (now r) ≡ recordSize) ⌝ }
 {
-    let at = RECORD_SIZE * k;
-    &part[at..at + RECORD_SIZE]
+    let at = layout::RECORD_SIZE * k;
+    &part[at..at + layout::RECORD_SIZE]
 }
 
 pub fn id_at(part: &[u8], k: usize) -> u32
@@ -57,7 +56,7 @@ pub fn id_at(part: &[u8], k: usize) -> u32
     ensures { λ r. ⌜ r ≡ idOf (recordAt k (now (part .entry))) ⌝ }
 {
     let r = record_at(part, k);
-    octets::number::number_at(r, 1)
+    octets::number::number_at(r, layout::ID)
 }
 
 pub fn is_waiting_at(part: &[u8], k: usize) -> bool
@@ -65,5 +64,5 @@ pub fn is_waiting_at(part: &[u8], k: usize) -> bool
     ensures { λ r. ⌜ r ≡ waiting (recordAt k (now (part .entry))) ⌝ }
 {
     let r = record_at(part, k);
-    r[0] == 1
+    r[layout::STATE] == 1
 }

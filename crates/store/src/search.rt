@@ -3,6 +3,7 @@ use crate::places;
 use crate::places::Best;
 use crate::places::Found;
 use records::book;
+use records::layout;
 ghost use mathlib.Core.Path.{_≡_};
 ghost use mathlib.Core.Bool.{_&&_};
 ghost use Prim.Native.Nat.{_<_};
@@ -25,8 +26,9 @@ fn is_pair(r: &[u8], source: &[u8], destination: &[u8]) -> bool
     requires { ⌜ length (now r) ≡ recordSize ⌝ }
     ensures { λ x. ⌜ x ≡ passes Search.Pair (now (source .entry)) (now (destination .entry)) (now (r .entry)) ⌝ }
 {
-    if r[0] == 1 {
-        book::is_same_address(&r[5..27], source) & book::is_same_address(&r[27..49], destination)
+    if r[layout::STATE] == 1 {
+        book::is_same_address(&r[layout::SOURCE..layout::DESTINATION], source)
+            & book::is_same_address(&r[layout::DESTINATION..layout::SERVICE_TYPE], destination)
     } else {
         false
     }
@@ -44,9 +46,9 @@ fn is_passing(r: &[u8], search: Search, source: &[u8], destination: &[u8]) -> bo
     requires { ⌜ length (now r) ≡ recordSize ⌝ }
     ensures { λ x. ⌜ x ≡ passes search (now (source .entry)) (now (destination .entry)) (now (r .entry)) ⌝ }
 {
-    let state = r[0];
+    let state = r[layout::STATE];
     match search {
-        Search::Id(id) => (state != 0) & (octets::number::number_at(r, 1) == id),
+        Search::Id(id) => (state != 0) & (octets::number::number_at(r, layout::ID) == id),
         Search::Pair => is_pair(r, source, destination),
         Search::Empty => state == 0,
         Search::Finished => (2 <= state) & (state <= 5),
@@ -58,8 +60,12 @@ fn turn_of(r: &[u8]) -> u64
     requires { ⌜ length (now r) ≡ recordSize ⌝ }
     ensures { λ x. ⌜ x ≡ turn (now (r .entry)) ⌝ }
 {
-    let id = octets::number::number_at(r, 1) as u64;
-    if r[56] == 1 { id } else { id + 4294967296 }
+    let id = octets::number::number_at(r, layout::ID) as u64;
+    if r[layout::PRIORITY] == 1 {
+        id
+    } else {
+        id + 4294967296
+    }
 }
 
 fn rank_of(r: &[u8], search: Search) -> u64
@@ -67,10 +73,10 @@ fn rank_of(r: &[u8], search: Search) -> u64
     ensures { λ x. ⌜ x ≡ rankOf search (now (r .entry)) ⌝ }
 {
     match search {
-        Search::Id(_) => octets::number::number_at(r, 1) as u64,
-        Search::Pair => octets::number::number_at(r, 1) as u64,
+        Search::Id(_) => octets::number::number_at(r, layout::ID) as u64,
+        Search::Pair => octets::number::number_at(r, layout::ID) as u64,
         Search::Empty => 0,
-        Search::Finished => octets::number::number_at(r, 1) as u64,
+        Search::Finished => octets::number::number_at(r, layout::ID) as u64,
         Search::Ready => turn_of(r),
     }
 }
