@@ -11,7 +11,7 @@ ghost use Rattle.answers.specs.Reply.{spaceNeeded};
 ghost use Rattle.records.specs.Book.{bookSize};
 ghost use Rattle.session.specs.State.{sessionCount, bound};
 ghost use Rattle.session.specs.declared.Entry.the-variants.{Open};
-ghost use Rattle.isolation.specs.Platform.{tableSize, Step, octetsOf, octetsOn};
+ghost use Rattle.isolation.specs.Platform.{tableSize, Step, onAccount, onEntry};
 ghost use Rattle.octets.specs.Choice.{if_then_else_};
 ghost use Rattle.bound.specs.Bound.{isTransmitter};
 ghost use Rattle.centre.specs.Centre.{octetsEarly, Fit, centre, step, world, takes};
@@ -53,7 +53,7 @@ fn check(book: usize, table: usize, stamp: &[u8], space: usize) -> u8
 
 fn take_open(book: &[u8], state: State, session: usize, octets: &[u8], space: &mut [u8]) -> Taken
     requires { ⌜ (length (now book) ≡ bookSize) × ((session < sessionCount) × (spaceNeeded ≤ length (now space))) ⌝ }
-    ensures { λ r. ⌜ ((stamp table : List ℕ) → takes r table (now (space .exit)) ≡ octetsOn centre (now (book .entry)) (world state table) session (record { octets = now (octets .entry); stamp = stamp; space = now (space .entry) }) Open) ⌝ }
+    ensures { λ r. ⌜ ((stamp table : List ℕ) → takes r table (now (space .exit)) ≡ onEntry centre (now (book .entry)) (world state table) session (record { octets = now (octets .entry); stamp = stamp; space = now (space .entry) }) Open) ⌝ }
 {
     let fronted = open::on_open(book, octets, space);
     let entry = fronted.entry;
@@ -92,7 +92,7 @@ fn take_bound(
 ) -> Taken
     requires { ⌜ ((length (now book) ≡ bookSize) × (length (now table) ≡ tableSize)) × ((session < sessionCount) × (isTransmitter entry ≡ transmitter)) ⌝ }
     requires { ⌜ (length (now stamp) ≡ 16) × (spaceNeeded ≤ length (now space)) ⌝ }
-    ensures { λ r. ⌜ takes r (now (table .exit)) (now (space .exit)) ≡ octetsOf centre (now (book .entry)) (world state (now (table .entry))) session (record { octets = now (octets .entry); stamp = now (stamp .entry); space = now (space .entry) }) entry a ⌝ }
+    ensures { λ r. ⌜ takes r (now (table .exit)) (now (space .exit)) ≡ onAccount centre (now (book .entry)) (world state (now (table .entry))) session (record { octets = now (octets .entry); stamp = now (stamp .entry); space = now (space .entry) }) entry a ⌝ }
 {
     if 8 <= a {
         return refuse(number::ACCOUNT_ILL_FORMED, state);
@@ -130,7 +130,7 @@ pub fn take(
     stamp: &[u8],
     space: &mut [u8],
 ) -> Taken
-    ensures { λ r. ⌜ takes r (now (table .exit)) (now (space .exit)) ≡ step (now (book .entry)) (world state (now (table .entry))) (Step.octets session (record { octets = now (octets .entry); stamp = now (stamp .entry); space = now (space .entry) })) ⌝ }
+    ensures { λ r. ⌜ takes r (now (table .exit)) (now (space .exit)) ≡ step (now (book .entry)) (world state (now (table .entry))) (Step.on session (record { octets = now (octets .entry); stamp = now (stamp .entry); space = now (space .entry) })) ⌝ }
 {
     if session::SESSIONS <= session {
         return refuse(number::NO_SESSION, state);

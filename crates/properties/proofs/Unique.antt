@@ -1,17 +1,20 @@
 -- A contract that says what `step` gives allows one result only. Assumes nothing.
 use Prim.Native.Nat.{ℕ}
+use native.Mathlib.Omega.{arith}
 use mathlib.Core.Path.{_≡_, refl, sym, ap, ap₂, _∙_}
 use mathlib.Core.List.{List}
-use lib.Dec.{ltb}
+use lib.Dec.{ltb, eqb}
+use lib.ListN.{length}
+use borrow.Author.Tests.{eqb-false}
 use Rattle.octets.proofs.StretchLaws.{if-cases}
 use Rattle.session.specs.State.{accountCount}
 use Rattle.session.specs.declared.State.{State}
 use Rattle.session.specs.declared.Moved.{Moved}
-use Rattle.isolation.specs.Platform.{World, fresh, picks, Ran, step}
-use Rattle.answers.specs.Answer.{Answer, picked, numberOf, pickedRecord}
-use Rattle.centre.specs.Centre.{centre, act, moves, takes, reports}
+use Rattle.isolation.specs.Platform.{partOf, World, fresh, of, Ran, step}
+use Rattle.answers.specs.Answer.{pick, Answer}
+use Rattle.centre.specs.Centre.{centre, pickEarly, act, moves, takes, reports}
 use Rattle.centre.specs.declared.take.Taken.{Taken}
-use Rattle.properties.specs.Property2.{Property2, Given}
+use Rattle.properties.specs.Property2.{Picked, Property2, Given}
 use Rattle.properties.proofs.Back.{pick-back}
 
 abbrev answerOf : Ran Answer → Answer
@@ -43,12 +46,16 @@ one-taken r r′ t t′ space space′ e =
       cc,
     )
 
-picking : (book : List ℕ) (w : World) (a : ℕ) → (let r = step centre book w (picks a) in
-    r ≡ record { answer = picked (numberOf (r .answer)) (pickedRecord (r .answer)); world = w })
+picking : (book : List ℕ) (w : World) (a : ℕ) → (let r = step centre book w (of a pick) in (r .world ≡ w) × Picked (partOf a (w .table)) (r .answer))
 unfolding step act
 picking book w a =
-    let P : Ran Answer → Type 0 = λ r. r ≡ record { answer = picked (numberOf (r .answer)) (pickedRecord (r .answer)); world = w } in
-    if-cases P _ _ _ (λ _. if-cases P (ltb a accountCount) _ _ (λ _. pick-back _ w a P (λ _. refl) (λ _. refl)) (λ _. refl)) (λ _. refl)
+    let P : Ran Answer → Type 0 = λ r. (r .world ≡ w) × Picked (partOf a (w .table)) (r .answer) in
+    let early = pickEarly (length book) (length (w .table)) in
+    if-cases P (eqb early 0) _ _
+    (λ _. if-cases P (ltb a accountCount) _ _
+    (λ _. pick-back _ w a P (λ n ne. (refl, ne)) (λ k below. (refl, (below, refl))))
+    (λ _. (refl, λ z. omega arith)))
+    (λ t. (refl, eqb-false early 0 t))
 
 pub property2 : Property2
 unfolding step fresh

@@ -4,8 +4,8 @@ use mathlib.Core.List.{List, [], _∷_, _++_}
 use lib.ListN.{length, replicate}
 use Rattle.octets.specs.Number.{octets4}
 use Rattle.octets.specs.Stretch.{padded}
-use Rattle.isolation.specs.Platform.{Step, octets}
-use Rattle.answers.specs.Answer.{Octets, Outcome}
+use Rattle.isolation.specs.Platform.{Step, on}
+use Rattle.answers.specs.Answer.{Octets, Question}
 
 -- numbers of four octets: of the requests alone, what is to come of them stands octet by octet
 abbrev pub words : List ℕ → List ℕ
@@ -86,5 +86,5 @@ query = 49 ∷ 0 ∷ 0 ∷ 0 ∷ 0 ∷ []
 abbrev pub space : List ℕ
 space = replicate 44 0xEE
 
-abbrev pub sends : ℕ → List ℕ → Step Octets Outcome
-sends session given = octets session (record { octets = given; stamp = stamp; space = space })
+abbrev pub sends : ℕ → List ℕ → Step Octets Question
+sends session given = on session (record { octets = given; stamp = stamp; space = space })
