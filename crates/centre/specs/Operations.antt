@@ -22,7 +22,7 @@ onOutcome book x own =
     if not (outcomeOk (x .state)) then keeping (numbered 8) own
     else if not (accountOk book (own .last) (own .part)) then keeping (numbered 9) own
     else let c = reported (x .stamp) (x .id) (x .state) (x .error) (own .part) in
-    keeping (numbered (c .status)) (owning (c .part) (own .last))
+    keeping (numbered (if c .waited then 0 else 10)) (owning (c .part) (own .last))
 
 -- ---- a pick: 9, 11
 

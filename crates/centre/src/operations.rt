@@ -53,7 +53,11 @@ fn on_outcome(
     if !store::account::is_account_ok(book, last, &part[..]) {
         return number::ACCOUNT_ILL_FORMED;
     }
-    account::outcome::report(part, stamp, id, state, error)
+    if account::outcome::report(part, stamp, id, state, error) {
+        number::DONE
+    } else {
+        number::NOT_WAITING
+    }
 }
 
 // Stores state, error code and final date of a waiting message. The first number that applies is given: 3, 5, 7, 8, 9, 10.

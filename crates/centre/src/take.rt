@@ -141,7 +141,7 @@ pub fn take(
     }
     let entry = state.entry(session);
     match entry {
-        Entry::Closed => refuse(number::NOT_OPEN, state),
+        Entry::Closed => refuse(number::UNFIT_SESSION, state),
         Entry::Open => take_open(book, state, session, octets, space),
         Entry::Transmitter(a) => take_bound(
             book,
@@ -167,6 +167,6 @@ pub fn take(
             stamp,
             space,
         ),
-        Entry::Ended => refuse(number::NOT_OPEN, state),
+        Entry::Ended => refuse(number::UNFIT_SESSION, state),
     }
 }

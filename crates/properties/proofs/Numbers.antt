@@ -13,10 +13,8 @@ use Rattle.wire.specs.declared.frame.Frame.{Frame}
 use Rattle.wire.specs.declared.frame.Frame.the-variants.{More, Malformed, Whole}
 use Rattle.records.specs.Book.{bookRecord}
 use Rattle.store.specs.Account.{accountOk}
-use Rattle.store.specs.Places.{recordAt, onPlace}
-use Rattle.store.specs.Search.{waiting, placeOf, nextPlace}
-use Rattle.changes.specs.Change.{finished}
-use Rattle.account.specs.Cancel.{Changed, changed}
+use Rattle.store.specs.Places.{recordAt}
+use Rattle.store.specs.Search.{nextPlace}
 use Rattle.account.specs.Outcome.{reported}
 use Rattle.session.specs.State.{sessionCount, accountCount, entryAt, lastAt, opened, openedFrom, closed}
 use Rattle.session.specs.declared.Entry.{Entry}
@@ -43,14 +41,6 @@ module _ (N : ℕ → Type 0) where
 
   -- ---- an account asked
 
-  reported-number : (stamp : List ℕ) (id state error : ℕ) (part : List ℕ) → N 0 → N 10 → N (reported stamp id state error part .status)
-  unfolding reported
-  reported-number stamp id state error part done none =
-      let C : Changed → Type 0 = λ c. N (c .status) in
-      found-cases C (placeOf id part)
-      (λ k. if waiting (recordAt k part) then changed 0 (onPlace (finished state error stamp) k part) else changed 10 part) (changed 10 part)
-      (λ k _. if-cases C (waiting (recordAt k part)) _ _ (λ _. done) (λ _. none)) (λ _. none)
-
   module _ (book : List ℕ) (own : Own) (done : N 0) (ill : accountOk book (own .last) (own .part) ≡ false → N 9) where
     bound-number : (transmitter : Bool) (x : Octets) → N 1 → Effects (onBound transmitter book x own)
     unfolding replying
@@ -64,7 +54,7 @@ module _ (N : ℕ → Type 0) where
     outcome-number x wrong none =
         if-cases Effects _ _ _ (λ _. wrong) λ _.
         if-cases Effects (not (accountOk book (own .last) (own .part))) _ _ (λ t. ill (not-true (accountOk book (own .last) (own .part)) t)) λ _.
-        reported-number (x .stamp) (x .id) (x .state) (x .error) (own .part) done none
+        if-cases N (reported (x .stamp) (x .id) (x .state) (x .error) (own .part) .waited) _ _ (λ _. done) (λ _. none)
 
     pick-number : N 11 → Effects (onPick book own)
     unfolding onPick

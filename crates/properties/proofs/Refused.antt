@@ -100,17 +100,17 @@ module _ (w : World) where
     refused-onAfter : (n : ℕ) → Refuses (on s x) (onAfter centre n book w s x)
     refused-onAfter n = if-cases (Refuses (on s x)) (eqb n 0) _ _ (λ _. refused-onEntry (entryAt (w .state) s) refl) (λ _ ne. refl)
 
-  refused-outcome : (book : List ℕ) (a : ℕ) (x : Outcome)
-      → Refuses (of a (outcome x)) (put centre w a (onOutcome book x (ownOf w a)))
+  refused-outcome : (book : List ℕ) (a : ℕ) (x : Outcome) → Refuses (of a (outcome x)) (put centre w a (onOutcome book x (ownOf w a)))
   unfolding onOutcome
   refused-outcome book a x =
       let mine = ownOf w a .part in
       let c = reported (x .stamp) (x .id) (x .state) (x .error) mine in
       let P : Effect Answer → Type 0 = λ e. Refuses (of a (outcome x)) (put centre w a e) in
       if-cases P _ _ _ (λ _ ne. account-back w a (numbered 8)) λ _.
-      if-cases P _ _ _ (λ _ ne. account-back w a (numbered 9)) λ _ ne.
-      ap (λ (p : List ℕ). put centre w a (keeping (numbered (c .status)) (owning p (ownOf w a .last)))) (reported-refused mine (x .stamp) (x .id) (x .state) (x .error) ne)
-      ∙ account-back w a (numbered (c .status))
+      if-cases P _ _ _ (λ _ ne. account-back w a (numbered 9)) λ _.
+      if-cases (λ (n : ℕ). P (keeping (numbered n) (owning (c .part) (ownOf w a .last)))) (c .waited) 0 10 (λ _ ne. absurd (ne refl)) λ t _.
+      ap (λ (p : List ℕ). put centre w a (keeping (numbered 10) (owning p (ownOf w a .last)))) (reported-refused mine (x .stamp) (x .id) (x .state) (x .error) t)
+      ∙ account-back w a (numbered 10)
 
   pub refused-step : (book : List ℕ) (st : Step Octets Question) → Refuses st (step centre book w st)
   unfolding step act opened closed

@@ -105,19 +105,19 @@ impl State {
                 }
             }
             Entry::Open => Moved {
-                number: number::NOT_OPEN,
+                number: number::UNFIT_SESSION,
                 state: self,
             },
             Entry::Transmitter(_) => Moved {
-                number: number::NOT_OPEN,
+                number: number::UNFIT_SESSION,
                 state: self,
             },
             Entry::Receiver(_) => Moved {
-                number: number::NOT_OPEN,
+                number: number::UNFIT_SESSION,
                 state: self,
             },
             Entry::Ended => Moved {
-                number: number::NOT_OPEN,
+                number: number::UNFIT_SESSION,
                 state: self,
             },
         }

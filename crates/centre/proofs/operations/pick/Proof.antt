@@ -41,7 +41,7 @@ returns : tie.Need-returns
 returns c = rw (← (c .before .before .before .locate .ensures .0), c .before .enum-told .given .1)
 
 returns-2 : tie.Need-returns-2
-returns-2 c = let w : WithinTable (c .before .before .before .before .before .before .before .before .args .account) (c .before .before .before .placed .given .0 .0) (c .before .before .before .before .before .before .before .before .args .table .now) = subst (λ (p : Placed). Inside p (c .before .before .before .before .before .before .before .before .args .account) (c .before .before .before .before .before .before .before .before .args .table .now)) (c .before .before .before .placed .given .1) (c .before .before .before .before .before .locate .ensures .1) in 
+returns-2 c = let w : WithinTable (c .before .before .before .before .before .before .before .before .args .account) (c .before .before .before .placed .given .0 .0) (c .before .before .before .before .before .before .before .before .args .table .now) = subst (λ (p : Placed). Inside p (c .before .before .before .before .before .before .before .before .args .account) (c .before .before .before .before .before .before .before .before .args .table .now)) (c .before .before .before .placed .given .1) (c .before .before .before .before .before .locate .ensures .1) in
     rw (← (c .before .before .before .before .before .locate .ensures .0), c .before .before .before .placed .given .1)
     (part-cut (c .before .start-of .result) 256 (c .before .before .before .before .before .before .before .before .args .table .now) ∙ ap (λ (at : ℕ). part at 256 (c .before .before .before .before .before .before .before .before .args .table .now)) (c .before .start-of .ensures)
     ∙ sym (part-part (c .before .before .before .before .before .before .before .before .args .table .now) (4096 * c .before .before .before .before .before .before .before .before .args .account) 4096 (256 * c .before .before .before .placed .given .0 .0) 256 (omega (arith, w .placeFits))))
