@@ -6,6 +6,7 @@ use native.Mathlib.Nat.{add-sub-cancel-left}
 use borrow.Author.Tests.{eq-eqb, ne-eqb, lt-ltb, le-ltb}
 use Rattle.octets.specs.Choice.{if_then_else_}
 use Rattle.octets.proofs.StretchLaws.{part-part}
+use Rattle.octets.proofs.LentLaws.{held}
 use Rattle.isolation.specs.Platform.{step}
 use Rattle.answers.specs.Answer.{picked}
 use Rattle.centre.specs.Centre.{act}
@@ -64,14 +65,14 @@ add-t20 c = let b : c .before .placed2 .given .0 .0 < 16 = subst PlacedInside (c
 returns-3 : tie.Need-returns-3
 unfolding step act if_then_else_
 returns-3 c = let e = rw (add-sub-cancel-left (4096 * c .before .before .before .before .before .before .before .before .before .before .before .before .args .account) 4096) at (c .before .before .before .on-pick .ensures .0) in
-    (rw (← (c .before .before .before .before .before .before .before .before .before .check-pick .ensures .0), eq-eqb _ _ (c .before .before .before .before .before .before .before .before .if1 .left), lt-ltb _ _ (c .before .before .before .before .before .before .before .if2 .left), ← (c .before .before .before .before .before .before .record-of .ensures .0), ← (c .before .before .before .before .before .last .ensures), ← e, c .before .placed .given .1), tt)
+    (rw (← (c .before .before .before .before .before .before .before .before .before .check-pick .ensures .0), eq-eqb _ _ (c .before .before .before .before .before .before .before .before .if1 .left), lt-ltb _ _ (c .before .before .before .before .before .before .before .if2 .left), ← (held (c .before .before .before .before .before .before .record-of .ensures .0)), ← (c .before .before .before .before .before .last .ensures), ← e, c .before .placed .given .1), tt)
 
 returns-4 : tie.Need-returns-4
 unfolding step act if_then_else_
 returns-4 c = let f = c .before .before .before .before .before .before .before .before .before .check-pick .ensures .1 (c .before .before .before .before .before .before .before .before .if1 .left) in
     let b : c .before .placed2 .given .0 .0 < 16 = subst PlacedInside (c .before .placed2 .given .1) (c .before .before .before .on-pick .ensures .1) in
     let e = rw (add-sub-cancel-left (4096 * c .before .before .before .before .before .before .before .before .before .before .before .before .args .account) 4096) at (c .before .before .before .on-pick .ensures .0) in (
-      rw (← (c .before .before .before .before .before .before .before .before .before .check-pick .ensures .0), eq-eqb _ _ (c .before .before .before .before .before .before .before .before .if1 .left), lt-ltb _ _ (c .before .before .before .before .before .before .before .if2 .left), ← (c .before .before .before .before .before .before .record-of .ensures .0), ← (c .before .before .before .before .before .last .ensures), ← e, c .before .placed2 .given .1)
+      rw (← (c .before .before .before .before .before .before .before .before .before .check-pick .ensures .0), eq-eqb _ _ (c .before .before .before .before .before .before .before .before .if1 .left), lt-ltb _ _ (c .before .before .before .before .before .before .before .if2 .left), ← (held (c .before .before .before .before .before .before .record-of .ensures .0)), ← (c .before .before .before .before .before .last .ensures), ← e, c .before .placed2 .given .1)
           (ap (picked 0) (sym (part-part (c .before .before .before .before .before .before .before .before .before .before .before .before .args .table .now) (4096 * c .before .before .before .before .before .before .before .before .before .before .before .before .args .account) 4096 (256 * c .before .placed2 .given .0 .0) 256 (omega arith)))),
       omega (arith, f .tableFits, c .before .before .before .before .before .before .before .if2 .left),
     )
