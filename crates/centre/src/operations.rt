@@ -6,6 +6,7 @@ use store::places::Found;
 ghost use mathlib.Core.Path.{_≡_};
 ghost use Prim.Native.Nat.{_<_};
 ghost use lib.ListN.{length};
+ghost use Rattle.octets.specs.Lent.{lent};
 ghost use Rattle.records.specs.Layout.{partSize};
 ghost use Rattle.records.specs.Book.{bookRecordSize};
 ghost use Rattle.records.specs.Layout.{places};
@@ -15,7 +16,7 @@ ghost use Rattle.answers.specs.Answer.{Question, numbered, numberOf, pickedReco
 ghost use Rattle.bound.specs.Bound.{keeping};
 ghost use Rattle.centre.specs.Operations.{outcomeOk, onOutcome, onPick};
 ghost use Rattle.centre.specs.Centre.{outcomeEarly, pickEarly, step, world, reports};
-ghost use Rattle.centre.specs.Pick.{placed, OnePlace, startOf, Inside, Stamped, Sized};
+ghost use Rattle.centre.specs.Pick.{startOf, pickedPart, placed, OnePlace, Inside, Stamped, Sized};
 
 fn check_outcome(book: usize, table: usize, stamp: &[u8]) -> u8
     ensures { λ r. ⌜ (r ≡ outcomeEarly book table (now (stamp .entry))) × (r ≡ 0 → Stamped book table (now (stamp .entry))) ⌝ }
@@ -162,7 +163,7 @@ pub fn pick_number(book: &[u8], table: &[u8], state: State, account: usize) -> u
 
 // The record itself, as part of the table, where the number is 0; else nothing.
 pub fn pick<'a>(book: &[u8], table: &'a [u8], state: State, account: usize) -> &'a [u8]
-    ensures { λ r. ⌜ now r ≡ pickedRecord (step (now (book .entry)) (world state (now (table .entry))) (Step.of account Question.pick) .answer) ⌝ }
+    ensures { λ r. ⌜ (lent r ≡ pickedPart account (step (now (book .entry)) (world state (now (table .entry))) (Step.of account Question.pick) .answer) (lent (table .entry))) × (now r ≡ pickedRecord (step (now (book .entry)) (world state (now (table .entry))) (Step.of account Question.pick) .answer)) ⌝ }
 {
     let placed = locate(book, table, state, account);
     match placed {

@@ -5,6 +5,7 @@ use mathlib.Core.List.{List}
 use lib.ListN.{length, getD}
 use lib.Dec.{eqb}
 use Rattle.octets.specs.Stretch.{part, same, zeros}
+use Rattle.octets.specs.Lent.{Lent, lentPart}
 use Rattle.forms.specs.Field.{textOf, isField}
 use Rattle.forms.specs.declared.text.Form.{Form}
 use Rattle.forms.specs.declared.text.Form.the-variants.{Ascii, Digits}
@@ -60,6 +61,10 @@ passwordIs password b = same (textOf (passwordOf b)) password
 -- the book has eight records, one behind the other
 abbrev pub bookRecord : ℕ → List ℕ → List ℕ
 bookRecord a book = part (bookRecordSize * a) bookRecordSize book
+
+-- the same where it stands
+abbrev pub bookRecordPart : ℕ → Lent → Lent
+bookRecordPart a book = lentPart (bookRecordSize * a) bookRecordSize book
 
 abbrev pub bookSize : ℕ
 bookSize = 512

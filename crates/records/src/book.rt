@@ -4,12 +4,13 @@ use forms::text::Form;
 ghost use mathlib.Core.Path.{_≡_};
 ghost use Prim.Native.Nat.{_≤_, _<_};
 ghost use lib.ListN.{length};
-ghost use Rattle.records.specs.Book.{bookRecordSize, bookRecord, bookSize, endedText, usedOk, sameName, sameAddress, named, passwordIs};
+ghost use Rattle.octets.specs.Lent.{lent};
+ghost use Rattle.records.specs.Book.{bookRecordSize, bookRecordPart, bookSize, endedText, usedOk, sameName, sameAddress, named, passwordIs};
 
 // The record of account a, in the book itself.
 pub fn record_of(book: &[u8], a: usize) -> &[u8]
     requires { ⌜ (length (now book) ≡ bookSize) × (a < 8) ⌝ }
-    ensures { λ r. ⌜ (now r ≡ bookRecord a (now (book .entry))) × (length (now r) ≡ bookRecordSize) ⌝ }
+    ensures { λ r. ⌜ (lent r ≡ bookRecordPart a (lent (book .entry))) × (length (now r) ≡ bookRecordSize) ⌝ }
 {
     let at = 64 * a;
     &book[at..at + 64]

@@ -6,6 +6,7 @@ use lib.ListN.{length, getD, take, drop, replicate}
 use lib.Dec.{ltb, leb, eqb}
 use Rattle.octets.specs.Choice.{if_then_else_}
 use Rattle.octets.specs.Stretch.{part, padded}
+use Rattle.octets.specs.Lent.{Lent, lentPart}
 use Rattle.forms.specs.Class.{inClass, lead}
 use Rattle.forms.specs.declared.class.Class.the-variants.{NotNul}
 use Rattle.forms.specs.declared.text.Form.{Form}
@@ -62,6 +63,10 @@ Inside span body = span .from + span .len ≤ length body
 
 abbrev pub octetsOf : Span → List ℕ → List ℕ
 octetsOf span body = part (span .from) (span .len) body
+
+-- the same where they stand: as that part of the received octets, not a copy
+abbrev pub spanPart : Span → Lent → Lent
+spanPart span body = lentPart (span .from) (span .len) body
 
 -- ---- an address: ton, npi, and the number in 20 octets, zeros behind it
 

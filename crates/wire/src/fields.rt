@@ -6,8 +6,8 @@ use forms::text::Form;
 use forms::text::MessageId;
 ghost use mathlib.Core.Path.{_≡_};
 ghost use Prim.Native.Nat.{_+_, _-_, _≤_};
-ghost use Rattle.octets.specs.Stretch.{part};
-ghost use Rattle.wire.specs.Fields.{Inside, noSpan, noTime, octetAt, textAt, addressAt, timeAt, idAt, spanAt, shortAt};
+ghost use Rattle.octets.specs.Lent.{lent};
+ghost use Rattle.wire.specs.Fields.{Inside, spanPart, noSpan, noTime, octetAt, textAt, addressAt, timeAt, idAt, spanAt, shortAt};
 
 pub const LONGEST_TEXT: u8 = 140;
 
@@ -61,7 +61,7 @@ pub struct SpanRead {
 // The octets of the body that a span names: that part of the body itself.
 pub fn octets_of(body: &[u8], span: Span) -> &[u8]
     requires { ⌜ Inside span (now body) ⌝ }
-    ensures { λ r. ⌜ now r ≡ part (span .from) (span .len) (now (body .entry)) ⌝ }
+    ensures { λ r. ⌜ lent r ≡ spanPart span (lent (body .entry)) ⌝ }
 {
     let from = span.from;
     let end = from + span.len;

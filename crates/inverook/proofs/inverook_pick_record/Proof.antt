@@ -14,7 +14,7 @@ pick-requires c κs = search needs
 
 returns : tie.Need-returns
 unfolding copiedTo if_then_else_
-returns c = rw (← (c .before .before .state-of .ensures), ← (c .before .pick .ensures), lt-ltb _ _ (c .if1 .taken))
+returns c = rw (← (c .before .before .state-of .ensures), ← (c .before .pick .ensures .1), lt-ltb _ _ (c .if1 .taken))
 
 put-requires : tie.Need-put-requires
 put-requires c κs = search needs
@@ -24,7 +24,7 @@ same-length c = search needs
 
 returns-2 : tie.Need-returns-2
 unfolding copiedTo if_then_else_
-returns-2 c = rw (← (c .before .before .before .before .before .before .state-of .ensures), ← (c .before .before .before .before .before .pick .ensures), le-ltb _ _ (c .before .before .before .before .if1 .left), c .before .before .put .ensures)
+returns-2 c = rw (← (c .before .before .before .before .before .before .state-of .ensures), ← (c .before .before .before .before .before .pick .ensures .1), le-ltb _ _ (c .before .before .before .before .if1 .left), c .before .before .put .ensures)
 
 pub inverook-pick-record-spec : {M : Type 1} → statement M
 inverook-pick-record-spec =

@@ -5,6 +5,7 @@ use native.Mathlib.Omega.{arith}
 use native.Mathlib.Nat.{add-sub-cancel-left}
 use borrow.Author.Tests.{eq-eqb, ne-eqb, lt-ltb, le-ltb}
 use Rattle.octets.specs.Choice.{if_then_else_}
+use Rattle.octets.proofs.LentLaws.{held}
 use Rattle.isolation.specs.Platform.{Effect, step}
 use Rattle.answers.specs.Answer.{Answer}
 use Rattle.centre.specs.Centre.{act}
@@ -55,7 +56,7 @@ returns-3 : tie.Need-returns-3
 unfolding step act if_then_else_
 returns-3 c = let f = c .before .before .before .before .before .before .check-pick .ensures .1 (c .before .before .before .before .before .if1 .left) in
     let e = rw (add-sub-cancel-left (4096 * c .before .before .before .before .before .before .before .before .before .args .account) 4096) at (c .on-pick .ensures .0) in (
-      rw (← (c .before .before .before .before .before .before .check-pick .ensures .0), eq-eqb _ _ (c .before .before .before .before .before .if1 .left), lt-ltb _ _ (c .before .before .before .before .if2 .left), ← (c .before .before .before .record-of .ensures .0), ← (c .before .before .last .ensures)) (ap (λ (r : Effect Answer). r .answer) e),
+      rw (← (c .before .before .before .before .before .before .check-pick .ensures .0), eq-eqb _ _ (c .before .before .before .before .before .if1 .left), lt-ltb _ _ (c .before .before .before .before .if2 .left), ← (held (c .before .before .before .record-of .ensures .0)), ← (c .before .before .last .ensures)) (ap (λ (r : Effect Answer). r .answer) e),
       inside (c .on-pick .result) (c .before .before .before .before .before .before .before .before .before .args .account) (c .before .before .before .before .before .before .before .before .before .args .table .now) (c .on-pick .ensures .1) (c .before .before .before .before .if2 .left) (f .tableFits),
     )
 

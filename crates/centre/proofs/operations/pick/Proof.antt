@@ -1,8 +1,10 @@
 -- `centre::operations::pick` meets its contract. Assumes nothing.
-use mathlib.Core.Path.{sym, ap, _∙_, subst}
+use mathlib.Core.Path.{refl, sym, ap, _∙_, subst}
 use Prim.Native.Nat.{ℕ, _*_}
 use native.Mathlib.Omega.{arith}
 use Rattle.octets.specs.Stretch.{part}
+use Rattle.octets.specs.Lent.{lent, lentPart}
+use Rattle.octets.proofs.LentLaws.{lent-cut}
 use Rattle.octets.proofs.StretchLaws.{part-cut, part-part}
 use Rattle.centre.specs.Pick.{WithinTable, Inside}
 use Rattle.centre.specs.declared.operations.Placed.{Placed}
@@ -38,13 +40,17 @@ part-result-end : tie.Need-part-result-end
 part-result-end c = let w : WithinTable (c .before .before .before .before .before .before .before .args .account) (c .before .before .placed .given .0 .0) (c .before .before .before .before .before .before .before .args .table .now) = subst (λ (p : Placed). Inside p (c .before .before .before .before .before .before .before .args .account) (c .before .before .before .before .before .before .before .args .table .now)) (c .before .before .placed .given .1) (c .before .before .before .before .locate .ensures .1) in omega (arith, c .start-of .ensures, w .accountFits, w .placeFits, w .tableFits)
 
 returns : tie.Need-returns
-returns c = rw (← (c .before .before .before .locate .ensures .0), c .before .enum-told .given .1)
+returns c = rw (← (c .before .before .before .locate .ensures .0), c .before .enum-told .given .1) (refl, refl)
 
 returns-2 : tie.Need-returns-2
-returns-2 c = let w : WithinTable (c .before .before .before .before .before .before .before .before .args .account) (c .before .before .before .placed .given .0 .0) (c .before .before .before .before .before .before .before .before .args .table .now) = subst (λ (p : Placed). Inside p (c .before .before .before .before .before .before .before .before .args .account) (c .before .before .before .before .before .before .before .before .args .table .now)) (c .before .before .before .placed .given .1) (c .before .before .before .before .before .locate .ensures .1) in
-    rw (← (c .before .before .before .before .before .locate .ensures .0), c .before .before .before .placed .given .1)
-    (part-cut (c .before .start-of .result) 256 (c .before .before .before .before .before .before .before .before .args .table .now) ∙ ap (λ (at : ℕ). part at 256 (c .before .before .before .before .before .before .before .before .args .table .now)) (c .before .start-of .ensures)
-    ∙ sym (part-part (c .before .before .before .before .before .before .before .before .args .table .now) (4096 * c .before .before .before .before .before .before .before .before .args .account) 4096 (256 * c .before .before .before .placed .given .0 .0) 256 (omega (arith, w .placeFits))))
+returns-2 c = let w : WithinTable (c .before .before .before .before .before .before .before .before .args .account) (c .before .before .before .placed .given .0 .0) (c .before .before .before .before .before .before .before .before .args .table .now) = subst (λ (p : Placed). Inside p (c .before .before .before .before .before .before .before .before .args .account) (c .before .before .before .before .before .before .before .before .args .table .now)) (c .before .before .before .placed .given .1) (c .before .before .before .before .before .locate .ensures .1) in 
+    let t = c .before .before .before .before .before .before .before .before .args .table in
+    rw (← (c .before .before .before .before .before .locate .ensures .0), c .before .before .before .placed .given .1) (
+      lent-cut (lent t) (c .before .start-of .result) 256 (omega (arith, c .before .start-of .ensures, w .accountFits, w .placeFits, w .tableFits))
+          ∙ ap (λ (at : ℕ). lentPart at 256 (lent t)) (c .before .start-of .ensures),
+      part-cut (c .before .start-of .result) 256 (t .now) ∙ ap (λ (at : ℕ). part at 256 (t .now)) (c .before .start-of .ensures)
+          ∙ sym (part-part (t .now) (4096 * c .before .before .before .before .before .before .before .before .args .account) 4096 (256 * c .before .before .before .placed .given .0 .0) 256 (omega (arith, w .placeFits))),
+    )
 
 pub pick-spec : {M : Type 1} → statement M
 pick-spec =
