@@ -10,6 +10,10 @@ use Rattle.forms.specs.Text.{formed}
 use Rattle.forms.specs.declared.class.Class.the-variants.{NotNul}
 use Rattle.forms.specs.declared.text.Form.{Form}
 
+-- an address as it is kept: type of number, numbering plan, and its characters in 20 octets
+abbrev pub addressSize : ℕ
+addressSize = 22
+
 unfoldable pub textOf : List ℕ → List ℕ
 textOf field = take (lead (inClass NotNul) field) field
 

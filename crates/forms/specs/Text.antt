@@ -16,6 +16,10 @@ use Rattle.forms.specs.declared.text.Form.the-variants.{Digits, Address,
 use Rattle.forms.specs.declared.text.MessageId.{MessageId}
 use Rattle.forms.specs.declared.text.MessageId.the-variants.{Empty, Number}
 
+-- a short message has at most 140 octets
+abbrev pub longestText : ℕ
+longestText = 140
+
 abbrev pub given : List ℕ → Bool
 given t = ltb 0 (length t)
 

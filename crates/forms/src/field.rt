@@ -7,6 +7,9 @@ ghost use mathlib.Core.Path.{_≡_};
 ghost use Rattle.octets.specs.Lent.{lent};
 ghost use Rattle.forms.specs.Field.{textPart, isField};
 
+// An address as it is kept: type of number, numbering plan, and its characters in 20 octets.
+pub const ADDRESS_SIZE: usize = 22;
+
 // The octets up to the first zero.
 pub fn text_of(field: &[u8]) -> &[u8]
     ensures { λ r. ⌜ lent r ≡ textPart (lent (field .entry)) ⌝ }

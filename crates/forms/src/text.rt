@@ -8,6 +8,9 @@ ghost use Rattle.octets.specs.Lent.{lent};
 ghost use Rattle.forms.specs.Class.{inClass};
 ghost use Rattle.forms.specs.Text.{afterSpacesPart, givenAll, formed, nibble, hexValue, messageId};
 
+// The longest short message.
+pub const LONGEST_TEXT: u8 = 140;
+
 pub enum Form {
     Ascii,
     Digits,

@@ -8,18 +8,13 @@ use lib.Dec.{ltb, leb, eqb}
 use lib.ListN.{length, replicate}
 use Rattle.octets.specs.Choice.{if_then_else_}
 use Rattle.octets.specs.Stretch.{part, patch}
+pub use Rattle.records.specs.Layout.{partSize, tableSize}
 use Rattle.session.specs.State.{sessionCount, accountCount, entryAt, lastAt, bound, issued, opened, closed}
 use Rattle.session.specs.State as S
 use Rattle.session.specs.declared.Entry.{Entry}
 use Rattle.session.specs.declared.Entry.the-variants.{Closed, Open, Transmitter, Receiver, Ended}
 use Rattle.session.specs.declared.State.{State}
 use Rattle.session.specs.declared.Moved.{Moved}
-
-abbrev pub partSize : ℕ
-partSize = 4096
-
-abbrev pub tableSize : ℕ
-tableSize = 32768
 
 -- account a's part of the table, and the table with that part replaced
 abbrev pub partOf : ℕ → List ℕ → List ℕ

@@ -6,9 +6,10 @@ use lib.ListN.{length, getD}
 use lib.Dec.{eqb}
 use Rattle.octets.specs.Stretch.{part, same, zeros}
 use Rattle.octets.specs.Lent.{Lent, lentPart}
-use Rattle.forms.specs.Field.{textOf, isField}
+use Rattle.forms.specs.Field.{addressSize, textOf, isField}
 use Rattle.forms.specs.declared.text.Form.{Form}
 use Rattle.forms.specs.declared.text.Form.the-variants.{Ascii, Digits}
+use Rattle.records.specs.Layout.{accountCount}
 
 abbrev pub bookRecordSize : ℕ
 bookRecordSize = 64
@@ -25,7 +26,14 @@ kindOf b = part 25 13 b
 
 -- 38 callback ton, 39 callback npi, 40-60 callback address: as a source, its 20 characters at most
 abbrev pub callbackOf : List ℕ → List ℕ
-callbackOf b = part 38 22 b
+callbackOf b = part 38 addressSize b
+
+abbrev pub callbackFieldOf : List ℕ → List ℕ
+callbackFieldOf b = part 40 21 b
+
+-- 61-63 zero
+abbrev pub bookSpareOf : List ℕ → List ℕ
+bookSpareOf b = part 61 3 b
 
 -- a text in a field that ends with at least one zero octet
 abbrev pub endedText : Form → List ℕ → Bool
@@ -37,8 +45,8 @@ bookOk b =
     endedText Ascii (systemOf b)
     && endedText Ascii (passwordOf b)
     && endedText Ascii (kindOf b)
-    && endedText Digits (part 40 21 b)
-    && zeros (part 61 3 b)
+    && endedText Digits (callbackFieldOf b)
+    && zeros (bookSpareOf b)
 
 -- an unused record is all zero
 unfoldable pub usedOk : List ℕ → Bool
@@ -67,4 +75,4 @@ abbrev pub bookRecordPart : ℕ → Lent → Lent
 bookRecordPart a book = lentPart (bookRecordSize * a) bookRecordSize book
 
 abbrev pub bookSize : ℕ
-bookSize = 512
+bookSize = bookRecordSize * accountCount
