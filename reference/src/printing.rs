@@ -65,7 +65,7 @@ impl RecordedReport {
     }
 
     /// The same report with the account as the centre takes it: any number, to be examined.
-    fn for_centre(self) -> Report {
+    pub(crate) fn for_centre(self) -> Report {
         Report {
             account: usize::from(self.account),
             id: self.id,
