@@ -1,7 +1,8 @@
 //! One number over all answers, response spaces, tables and states of a long run, for each
 //! engine: two builds that do the same print the same.
 //!
-//! `digest [steps] [seed]`. The histories are those of `compare` with the same arguments.
+//! `digest [steps] [seed]`. The histories are those of `compare` with the same arguments. It
+//! fails where two engines' numbers differ.
 
 use reference::campaign;
 use reference::engines::engines;
@@ -21,12 +22,17 @@ fn main() -> ExitCode {
             return ExitCode::from(2);
         }
     };
+    let mut digests = Vec::new();
     for engine in engines() {
         let (digest, played) = campaign::digest(engine, steps, seed);
         println!(
             "{}: digest {digest:016X} of {played} steps, seed {seed}",
             engine.name()
         );
+        digests.push(digest);
     }
-    ExitCode::SUCCESS
+    match digests.iter().all(|digest| *digest == digests[0]) {
+        true => ExitCode::SUCCESS,
+        false => ExitCode::FAILURE,
+    }
 }
