@@ -16,7 +16,8 @@ const OCTETS: u8 = 1;
 const CLOSE: u8 = 2;
 const OUTCOME: u8 = 3;
 
-const PAYLOAD: usize = 20;
+/// Where a record's payload begins.
+pub const PAYLOAD: usize = 20;
 const OUTCOME_LENGTH: usize = 7;
 
 /// What one record asks for.

@@ -5,7 +5,8 @@ use crate::centre::STAMP;
 use crate::compare::PLAIN_STAMP;
 use crate::compose::Request;
 use crate::generate::{history, Manner};
-use crate::printing::{self, Order, RecordedReport, MOST_OF_BOOK, RECORD};
+use crate::printing::{self, Order, RecordedReport, MOST_OF_BOOK, PAYLOAD, RECORD};
+use crate::random::Random;
 use crate::recorded;
 use std::fs::{self, File};
 use std::path::{Path, PathBuf};
@@ -144,11 +145,18 @@ fn wrong_book(size: usize) -> Trial {
     )
 }
 
-/// Some end in a bad record.
+/// Every other one has noise where nothing is examined, and some end in a bad record.
 fn generated_history(seed: u64) -> Trial {
     let history = history(seed, GENERATED, Manner::Records);
     let orders = recorded::orders(&history).expect("the generator keeps to records");
     let mut records = records(&orders);
+    if seed.is_multiple_of(2) {
+        let mut random = Random::new(seed);
+        let (records, _) = records.as_chunks_mut();
+        records
+            .iter_mut()
+            .for_each(|record| noise(record, &mut random));
+    }
     let bad = bad_records();
     if let Some((_, bad)) = bad.get(seed as usize % (2 * bad.len())) {
         records.extend(bad);
@@ -159,6 +167,20 @@ fn generated_history(seed: u64) -> Trial {
         records,
         outline: None,
     }
+}
+
+/// Fills the fields that the record's kind has no use for, and the 12 zeros.
+fn noise(record: &mut [u8; RECORD], random: &mut Random) {
+    let length = usize::from(u16::from_be_bytes([record[2], record[3]]));
+    let unused = match Order::read(record) {
+        Some(Order::Octets { .. }) => PAYLOAD + length..RECORD,
+        Some(Order::Outcome { .. }) => {
+            record[1] = random.octet();
+            PAYLOAD + length..RECORD
+        }
+        _ => 2..RECORD,
+    };
+    record[unused].fill_with(|| random.octet());
 }
 
 /// A line as it is shown in a complaint: a program that isn't ours may print anything.

@@ -79,8 +79,8 @@ bind system password kind = ended system ++ (ended password ++ (ended kind ++ (0
 abbrev pub address : List ℕ → List ℕ
 address number = 1 ∷ 1 ∷ ended number
 
-abbrev pub noAddress : List ℕ
-noAddress = 0 ∷ 0 ∷ 0 ∷ []
+abbrev pub emptyAddress : List ℕ
+emptyAddress = 0 ∷ 0 ∷ 0 ∷ []
 
 -- source, destination, priority, replace flag and default id, the other fields not given; the last holds sm_length and the text
 abbrev pub submissionWith : List ℕ → List ℕ → ℕ → ℕ → ℕ → List ℕ → List ℕ
@@ -89,7 +89,7 @@ submissionWith source destination priority replace default text =
 
 -- "hello" to 447700900123, nothing else given
 abbrev pub submission : List ℕ
-submission = submissionWith noAddress (address mobile) 0 0 0 (5 ∷ hello)
+submission = submissionWith emptyAddress (address mobile) 0 0 0 (5 ∷ hello)
 
 -- the id "1", no source
 abbrev pub query : List ℕ

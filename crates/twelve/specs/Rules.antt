@@ -12,7 +12,7 @@ use Rattle.isolation.specs.History.{after}
 use Rattle.answers.specs.Answer.{Octets, Outcome, Answer, pickedRecord}
 use Rattle.centre.specs.Centre.{centre, step}
 use Rattle.twelve.specs.Computed.{computed}
-use Rattle.twelve.specs.Requests.{ended, paging, secret, vma, office, mobile, hello, stamp, entry, entryWith, twoAccounts, pdu, bind, address, noAddress, submissionWith, query, sends}
+use Rattle.twelve.specs.Requests.{ended, paging, secret, vma, office, mobile, hello, stamp, entry, entryWith, twoAccounts, pdu, bind, address, emptyAddress, submissionWith, query, sends}
 use Rattle.twelve.specs.Examples.{Held, Came, Case, taking, HoldsOf, Every, opened, openedWith, bound, stateWith, answers, gives}
 use Rattle.twelve.specs.Stored.{submits, storedTwice}
 
@@ -29,12 +29,12 @@ spaces = 32 ∷ 32 ∷ 32 ∷ []
 abbrev pub bindReply : ℕ → List ℕ
 bindReply status = 0x00 ∷ 0x00 ∷ 0x00 ∷ 0x17 ∷ 0x80 ∷ 0x00 ∷ 0x00 ∷ 0x02 ∷ 0x00 ∷ 0x00 ∷ 0x00 ∷ status ∷ 0x00 ∷ 0x00 ∷ 0x00 ∷ 0x01 ∷ 0x53 ∷ 0x4D ∷ 0x53 ∷ 0x43 ∷ 0x33 ∷ 0x33 ∷ 0x00 ∷ []
 
-abbrev pub refusal : ℕ → List ℕ
-refusal status = 0x00 ∷ 0x00 ∷ 0x00 ∷ 0x11 ∷ 0x80 ∷ 0x00 ∷ 0x00 ∷ 0x04 ∷ 0x00 ∷ 0x00 ∷ 0x00 ∷ status ∷ 0x00 ∷ 0x00 ∷ 0x00 ∷ 0x02 ∷ 0x00 ∷ []
+abbrev pub submitRefused : ℕ → List ℕ
+submitRefused status = 0x00 ∷ 0x00 ∷ 0x00 ∷ 0x11 ∷ 0x80 ∷ 0x00 ∷ 0x00 ∷ 0x04 ∷ 0x00 ∷ 0x00 ∷ 0x00 ∷ status ∷ 0x00 ∷ 0x00 ∷ 0x00 ∷ 0x02 ∷ 0x00 ∷ []
 
 -- of so many octets, taken on a session bound to account 0
 abbrev pub refuses : ℕ → ℕ → Came
-refuses octets status = gives (answers 0 octets 17 (refusal status)) (Transmitter 0)
+refuses octets status = gives (answers 0 octets 17 (submitRefused status)) (Transmitter 0)
 
 abbrev pub fields : List Case
 fields =
@@ -43,9 +43,9 @@ fields =
     -- fields from left to right: source and destination of spaces only
     ∷ taking twoAccounts bound (sends 0 (pdu 4 2 (submissionWith (address spaces) (address spaces) 0 0 0 (5 ∷ hello)))) (refuses 44 10)
     -- sm_length above 140 is 1, and only then is a default id beside a text 9
-    ∷ taking twoAccounts bound (sends 0 (pdu 4 2 (submissionWith noAddress noAddress 0 0 1 (141 ∷ replicate 141 65)))) (refuses 174 1)
+    ∷ taking twoAccounts bound (sends 0 (pdu 4 2 (submissionWith emptyAddress emptyAddress 0 0 1 (141 ∷ replicate 141 65)))) (refuses 174 1)
     -- octets left over come behind every field: priority 2 and one octet more
-    ∷ taking twoAccounts bound (sends 0 (pdu 4 2 (submissionWith noAddress noAddress 2 0 0 (5 ∷ hello) ++ (0 ∷ [])))) (refuses 39 6)
+    ∷ taking twoAccounts bound (sends 0 (pdu 4 2 (submissionWith emptyAddress emptyAddress 2 0 0 (5 ∷ hello) ++ (0 ∷ [])))) (refuses 39 6)
     ∷ []
 
 pub fields-hold : Every HoldsOf fields
@@ -62,9 +62,9 @@ eight =
     ++ (entry secret secret vma ++ (entry paging secret [] ++ (entry paging secret vma ++ (entry paging vma vma ++ replicate 128 0)))))
 
 -- n waiting messages in places k on, with ids k + 1 on
-abbrev pub waiting : ℕ → ℕ → List Held
-waiting k zero = []
-waiting k (suc n) = record { place = k; octets = 1 ∷ 0 ∷ 0 ∷ 0 ∷ (k + 1) ∷ [] } ∷ waiting (k + 1) n
+abbrev pub waitingFrom : ℕ → ℕ → List Held
+waitingFrom k zero = []
+waitingFrom k (suc n) = record { place = k; octets = 1 ∷ 0 ∷ 0 ∷ 0 ∷ (k + 1) ∷ [] } ∷ waitingFrom (k + 1) n
 
 -- all sixteen places of account 0 waiting
 abbrev pub full : World
@@ -76,7 +76,7 @@ elsewhere = step twoAccounts bound (sends 0 (pdu 4 1 (submissionWith (address mo
 
 -- two messages to one number, and a third to another
 abbrev pub three : World
-three = step twoAccounts storedTwice (sends 0 (pdu 4 1 (submissionWith noAddress (address office) 0 0 0 (5 ∷ hello)))) .world
+three = step twoAccounts storedTwice (sends 0 (pdu 4 1 (submissionWith emptyAddress (address office) 0 0 0 (5 ∷ hello)))) .world
 
 -- what comes of a step on a session bound to account 0: the answer, that account's last id, and what the table holds
 abbrev pub brings : Answer → ℕ → List Held → Came
@@ -90,27 +90,27 @@ effects =
     ∷ taking twoAccounts
     (record { state = stateWith (Transmitter 0) 0xFFFFFFFF; table = replicate tableSize 0 })
     (submits 0 2)
-    (brings (answers 0 50 17 (refusal 8)) 0xFFFFFFFF [])
+    (brings (answers 0 50 17 (submitRefused 8)) 0xFFFFFFFF [])
     -- submit, sixteen waiting: 20, and no id is issued
-    ∷ taking twoAccounts full (submits 0 2) (brings (answers 0 50 17 (refusal 20)) 16 (waiting 0 16))
+    ∷ taking twoAccounts full (submits 0 2) (brings (answers 0 50 17 (submitRefused 20)) 16 (waitingFrom 0 16))
     -- submit with the replace flag set: the lowest-id waiting record with equal source and destination, whose id is returned
-    ∷ taking twoAccounts storedTwice (sends 0 (pdu 4 2 (submissionWith noAddress (address mobile) 0 1 0 hi)))
+    ∷ taking twoAccounts storedTwice (sends 0 (pdu 4 2 (submissionWith emptyAddress (address mobile) 0 1 0 hi)))
     (brings
     (answers 0 47 25 (0x00 ∷ 0x00 ∷ 0x00 ∷ 0x19 ∷ 0x80 ∷ 0x00 ∷ 0x00 ∷ 0x04 ∷ 0x00 ∷ 0x00 ∷ 0x00 ∷ 0x00 ∷ 0x00 ∷ 0x00 ∷ 0x00 ∷ 0x02 ∷ 0x30 ∷ 0x30 ∷ 0x30 ∷ 0x30 ∷ 0x30 ∷ 0x30 ∷ 0x30 ∷ 0x31 ∷ 0x00 ∷ []))
     2
-    (waiting 0 2))
+    (waitingFrom 0 2))
     -- query: an empty source is the callback's, and doesn't match any source
     ∷ taking twoAccounts elsewhere (sends 0 (pdu 3 4 query))
     (brings
     (answers 0 21 20 (0x00 ∷ 0x00 ∷ 0x00 ∷ 0x14 ∷ 0x80 ∷ 0x00 ∷ 0x00 ∷ 0x03 ∷ 0x00 ∷ 0x00 ∷ 0x00 ∷ 0x0C ∷ 0x00 ∷ 0x00 ∷ 0x00 ∷ 0x04 ∷ 0x00 ∷ 0x00 ∷ 0x00 ∷ 0x00 ∷ []))
     1
-    (waiting 0 1))
+    (waitingFrom 0 1))
     -- cancel with an empty id: all waiting records with that source and destination are deleted
-    ∷ taking twoAccounts three (sends 0 (pdu 8 5 (0 ∷ 0 ∷ (noAddress ++ address mobile))))
+    ∷ taking twoAccounts three (sends 0 (pdu 8 5 (0 ∷ 0 ∷ (emptyAddress ++ address mobile))))
     (brings
     (answers 0 36 16 (0x00 ∷ 0x00 ∷ 0x00 ∷ 0x10 ∷ 0x80 ∷ 0x00 ∷ 0x00 ∷ 0x08 ∷ 0x00 ∷ 0x00 ∷ 0x00 ∷ 0x00 ∷ 0x00 ∷ 0x00 ∷ 0x00 ∷ 0x05 ∷ []))
     3
-    (record { place = 0; octets = 4 ∷ 0 ∷ 0 ∷ 0 ∷ 1 ∷ [] } ∷ record { place = 1; octets = 4 ∷ 0 ∷ 0 ∷ 0 ∷ 2 ∷ [] } ∷ waiting 2 1))
+    (record { place = 0; octets = 4 ∷ 0 ∷ 0 ∷ 0 ∷ 1 ∷ [] } ∷ record { place = 1; octets = 4 ∷ 0 ∷ 0 ∷ 0 ∷ 2 ∷ [] } ∷ waitingFrom 2 1))
     ∷ []
 
 pub effects-hold : Every HoldsOf effects
@@ -125,13 +125,13 @@ waitingRecord id destination text =
     (1 ∷ 0 ∷ 0 ∷ 0 ∷ id ∷ [])
     ++ ((1 ∷ 1 ∷ padded 20 office) ++ ((1 ∷ 1 ∷ padded 20 destination) ++ (replicate 43 0 ++ (padded 141 text ++ replicate 23 0))))
 
-abbrev pub reports : ℕ → ℕ → ℕ → Step Octets Outcome
-reports id state error = outcome 0 (record { stamp = stamp; id = id; state = state; error = error })
+abbrev pub outcomeOf : ℕ → ℕ → ℕ → Step Octets Outcome
+outcomeOf id state error = outcome 0 (record { stamp = stamp; id = id; state = state; error = error })
 
 -- submit where no place is empty, 7 is undeliverable and 3 delivered: over the lowest-id record in state 2 to 5, every field written afresh
 pub finished-overwritten :
     recordAt 2 (partOf 0
-    (after centre twoAccounts full (reports 7 5 9 ∷ reports 3 2 7 ∷ sends 0 (pdu 4 2 (submissionWith noAddress (address office) 0 0 0 hi)) ∷ []) .table))
+    (after centre twoAccounts full (outcomeOf 7 5 9 ∷ outcomeOf 3 2 7 ∷ sends 0 (pdu 4 2 (submissionWith emptyAddress (address office) 0 0 0 hi)) ∷ []) .table))
     ≡ waitingRecord 17 office hi
 unfolding computed
 finished-overwritten = refl
@@ -139,7 +139,7 @@ finished-overwritten = refl
 -- replace, id 1: no old text octet stays behind a shorter text
 pub shorter-text :
     recordAt 0 (partOf 0
-    (step twoAccounts storedTwice (sends 0 (pdu 7 5 (49 ∷ 0 ∷ (noAddress ++ (0 ∷ 0 ∷ 0 ∷ 0 ∷ hi))))) .world .table))
+    (step twoAccounts storedTwice (sends 0 (pdu 7 5 (49 ∷ 0 ∷ (emptyAddress ++ (0 ∷ 0 ∷ 0 ∷ 0 ∷ hi))))) .world .table))
     ≡ waitingRecord 1 mobile hi
 unfolding computed
 shorter-text = refl
@@ -147,7 +147,7 @@ shorter-text = refl
 -- ---- a pick: priority 1 before priority 0, then the lowest id
 
 abbrev pub urgent : Step Octets Outcome
-urgent = sends 0 (pdu 4 1 (submissionWith noAddress (address mobile) 1 0 0 hi))
+urgent = sends 0 (pdu 4 1 (submissionWith emptyAddress (address mobile) 1 0 0 hi))
 
 pub urgent-first : take 5 (pickedRecord (step twoAccounts (after centre twoAccounts bound (submits 0 1 ∷ urgent ∷ urgent ∷ [])) (picks 0) .answer)) ≡ 1 ∷ 0 ∷ 0 ∷ 0 ∷ 2 ∷ []
 unfolding computed

@@ -45,12 +45,9 @@ fn play_all(files: &[File], engine: &dyn Engine) -> (usize, usize) {
             match play(case, engine) {
                 Ok(count) => calls += count,
                 Err(failure) => {
-                    println!(
-                        "{}, {}, case {}: {failure}",
-                        engine.name(),
-                        file.name,
-                        case.name
-                    );
+                    let (name, line) = (&file.name, failure.line);
+                    let (case, engine) = (&case.name, engine.name());
+                    println!("{name}:{line}: on {engine}, case {case}:\n  {failure}");
                     failures += 1;
                 }
             }

@@ -29,7 +29,7 @@ pub fn files(folder: &Path) -> Result<Vec<File>, String> {
 fn file(path: PathBuf) -> Result<File, String> {
     let name = path.display().to_string();
     let text = fs::read_to_string(&path).map_err(|error| format!("{name}: {error}"))?;
-    let cases = read(&text).map_err(|error| format!("{name}: {error}"))?;
+    let cases = read(&text).map_err(|error| format!("{name}:{}: {}", error.line, error.message))?;
     if cases.is_empty() {
         return Err(format!("{name} has no case"));
     }

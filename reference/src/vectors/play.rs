@@ -18,7 +18,7 @@ pub struct Failure {
 
 impl fmt::Display for Failure {
     fn fmt(&self, f: &mut fmt::Formatter<'_>) -> fmt::Result {
-        writeln!(f, "line {}: {}", self.line, self.text)?;
+        writeln!(f, "{}", self.text)?;
         writeln!(f, "  expected {}", self.expected)?;
         write!(f, "  found    {}", self.found)
     }

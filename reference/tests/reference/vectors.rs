@@ -16,7 +16,12 @@ fn every_engine_does_as_the_vectors_say() {
         for file in shipped() {
             for case in &file.cases {
                 if let Err(failure) = play(case, engine) {
-                    panic!("{}, {}: {failure}", engine.name(), file.name);
+                    panic!(
+                        "{}, {}:{}: {failure}",
+                        engine.name(),
+                        file.name,
+                        failure.line
+                    );
                 }
             }
         }
@@ -69,6 +74,7 @@ fn altered(line: &str) -> String {
     for (from, to) in [
         ("changed nothing", "changed 0 place 0 at 0"),
         (" open", " closed"),
+        (" closed", " open"),
         (" ended", " open"),
     ] {
         if let Some(front) = line.strip_suffix(from) {
@@ -105,9 +111,10 @@ fn a_failure_names_the_line_what_was_expected_and_what_was_found() {
     assert_eq!(played(right), Ok(3));
     let wrong = right.replace("00000002", "00000003");
     let failure = played(&wrong).unwrap_err();
+    assert_eq!(failure.line, 5);
     assert_eq!(
         failure.to_string(),
-        "line 5: enquire 0 => 0 16 00000010 80000015 00000000 00000003\n  \
+        "enquire 0 => 0 16 00000010 80000015 00000000 00000003\n  \
          expected 0 16 00000010800000150000000000000003\n  \
          found    0 16 00000010800000150000000000000002"
     );
@@ -137,7 +144,7 @@ fn each_way_to_say_a_reply() {
         "unbind 0 => status 0\nentry 0 ended\nclose 0 => 0\nentry 0 closed\n",
     ] {
         if let Err(failure) = played(lines) {
-            panic!("{failure}");
+            panic!("line {}: {failure}", failure.line);
         }
     }
 }
