@@ -11,4 +11,6 @@ mod printed;
 #[cfg(feature = "proved")]
 mod proved;
 mod records;
+mod trials;
+mod vectors;
 mod wrapped;
