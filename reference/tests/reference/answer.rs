@@ -1,7 +1,8 @@
 //! docs/ANSWER.md shows what the centre does: its table and its list of stored messages are
 //! computed here from the shipped history, and the page must show the same.
 
-use reference::centre::{layout, BookRecord, Message, Place, Reference, BOOK_RECORD, PART, PLACES};
+use reference::centre::{layout, BookRecord, Fault, Message, Place, Reference};
+use reference::centre::{BOOK_RECORD, PART, PLACES};
 use reference::compare::Engine;
 use reference::hex;
 use reference::printing::{run, Order};
@@ -103,7 +104,8 @@ fn play<E: Engine>(centre: &mut Centre<E>, order: &Order) -> String {
         Order::Outcome { stamp, report } => {
             let account = usize::from(report.account);
             let picked = Message(centre.pick(account).unwrap().unwrap());
-            assert_eq!((picked.id(), report.outcome), (report.id, 2));
+            assert_eq!(picked.id(), report.id, "the message picked and reported");
+            assert_eq!(report.outcome, 2, "delivered");
             let delivered = Outcome::Delivered;
             let reported = centre.outcome(stamp, account, report.id, delivered, report.error);
             reported.unwrap();
@@ -155,6 +157,13 @@ fn assert_apart(engine: impl Engine) {
 #[test]
 fn each_step_leaves_the_other_account_alone() {
     assert_apart(Reference::sound());
+}
+
+/// One of the three faults put back: Carrick's first id is 2 again.
+#[test]
+#[should_panic(expected = "the message picked and reported")]
+fn one_counter_does_otherwise() {
+    assert_apart(Reference::with_fault(Fault::OneCounter));
 }
 
 #[cfg(feature = "proved")]
