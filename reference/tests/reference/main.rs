@@ -1,5 +1,6 @@
 //! The independent implementation against the outline, rule by rule.
 
+mod answer;
 mod bureau;
 mod companions;
 mod comparison;
