@@ -1,5 +1,6 @@
 // Reporting an outcome and picking the next message to send.
 use crate::sizes;
+use records::layout;
 use session::State;
 use session::number;
 use store::places::Found;
@@ -78,15 +79,15 @@ pub fn outcome(
     if early != 0 {
         return early;
     }
-    if 8 <= account {
+    if layout::ACCOUNTS <= account {
         return number::NO_ACCOUNT;
     }
     let record = records::book::record_of(book, account);
     let last = state.last(account);
-    let at = 4096 * account;
+    let at = layout::PART_SIZE * account;
     on_outcome(
         record,
-        &mut table[at..at + 4096],
+        &mut table[at..at + layout::PART_SIZE],
         last,
         stamp,
         id,
@@ -133,13 +134,13 @@ pub fn locate(book: &[u8], table: &[u8], state: State, account: usize) -> Placed
     if early != 0 {
         return Placed::Refused(early);
     }
-    if 8 <= account {
+    if layout::ACCOUNTS <= account {
         return Placed::Refused(number::NO_ACCOUNT);
     }
     let record = records::book::record_of(book, account);
     let last = state.last(account);
-    let at = 4096 * account;
-    on_pick(record, &table[at..at + 4096], last)
+    let at = layout::PART_SIZE * account;
+    on_pick(record, &table[at..at + layout::PART_SIZE], last)
 }
 
 // The octet of the table at which a place of an account starts.
@@ -147,7 +148,7 @@ pub fn start_of(account: usize, place: usize) -> usize
     requires { ⌜ (account < accountCount) × (place < places) ⌝ }
     ensures { λ r. ⌜ r ≡ startOf account place ⌝ }
 {
-    4096 * account + 256 * place
+    layout::PART_SIZE * account + layout::RECORD_SIZE * place
 }
 
 // Whether there is a message to send: 3, 7, 9, 11, or 0.
@@ -170,7 +171,7 @@ pub fn pick<'a>(book: &[u8], table: &'a [u8], state: State, account: usize) -> &
         Placed::Refused(_) => &table[..0],
         Placed::Place(k) => {
             let at = start_of(account, k);
-            &table[at..at + 256]
+            &table[at..at + layout::RECORD_SIZE]
         }
     }
 }

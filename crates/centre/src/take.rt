@@ -1,5 +1,7 @@
 // Taking octets on a session.
 use crate::sizes;
+use answers::reply;
+use records::layout;
 use session::Entry;
 use session::State;
 use session::number;
@@ -42,7 +44,7 @@ fn check(book: usize, table: usize, stamp: &[u8], space: usize) -> u8
     if sizes::is_wrong(book, table) {
         return number::WRONG_SIZE;
     }
-    if space < 44 {
+    if space < reply::SPACE_NEEDED {
         return number::SPACE_TOO_SHORT;
     }
     if !forms::time::is_sent_time(stamp) {
@@ -94,20 +96,20 @@ fn take_bound(
     requires { ⌜ (length (now stamp) ≡ 16) × (spaceNeeded ≤ length (now space)) ⌝ }
     ensures { λ r. ⌜ takes r (now (table .exit)) (now (space .exit)) ≡ onAccount centre (now (book .entry)) (world state (now (table .entry))) session (record { octets = now (octets .entry); stamp = now (stamp .entry); space = now (space .entry) }) entry a ⌝ }
 {
-    if 8 <= a {
+    let account = a as usize;
+    if layout::ACCOUNTS <= account {
         return refuse(number::ACCOUNT_ILL_FORMED, state);
     }
-    let account = a as usize;
     let record = records::book::record_of(book, account);
     let last = state.last(account);
-    let at = 4096 * account;
+    let at = layout::PART_SIZE * account;
     let acted = bound::on_bound(
         transmitter,
         record,
         octets,
         stamp,
         space,
-        &mut table[at..at + 4096],
+        &mut table[at..at + layout::PART_SIZE],
         last,
     );
     let kept = settle(state, session, entry, acted.ends);

@@ -4,6 +4,7 @@ mod flat;
 use centre::operations;
 use centre::operations::Placed;
 use flat::InverookState;
+use records::layout;
 ghost use mathlib.Core.Path.{_≡_};
 ghost use Prim.Native.Nat.{ℕ};
 ghost use mathlib.Core.List.{List};
@@ -113,7 +114,7 @@ pub extern "C" fn inverook_pick_number(
 }
 
 // Where no record is picked: one past the table's last octet.
-const NOWHERE: usize = 32768;
+const NOWHERE: usize = layout::TABLE_SIZE;
 
 // A C caller cannot be handed a part of its own table: it gets the octet at which that part starts.
 #[no_mangle]

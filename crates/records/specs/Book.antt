@@ -21,8 +21,8 @@ systemOf b = part 0 16 b
 abbrev pub passwordOf : List ℕ → List ℕ
 passwordOf b = part 16 9 b
 
-abbrev pub kindOf : List ℕ → List ℕ
-kindOf b = part 25 13 b
+abbrev pub systemTypeOf : List ℕ → List ℕ
+systemTypeOf b = part 25 13 b
 
 -- 38 callback ton, 39 callback npi, 40-60 callback address: as a source, its 20 characters at most
 abbrev pub callbackOf : List ℕ → List ℕ
@@ -44,7 +44,7 @@ unfoldable pub bookOk : List ℕ → Bool
 bookOk b =
     endedText Ascii (systemOf b)
     && endedText Ascii (passwordOf b)
-    && endedText Ascii (kindOf b)
+    && endedText Ascii (systemTypeOf b)
     && endedText Digits (callbackFieldOf b)
     && zeros (bookSpareOf b)
 
@@ -61,7 +61,7 @@ sameAddress a b = same a b
 
 -- a used, well-formed record with equal system_id and system_type
 unfoldable pub named : List ℕ → List ℕ → List ℕ → Bool
-named system kind b = usedOk b && sameName (textOf (systemOf b)) system && sameName (textOf (kindOf b)) kind
+named system kind b = usedOk b && sameName (textOf (systemOf b)) system && sameName (textOf (systemTypeOf b)) kind
 
 unfoldable pub passwordIs : List ℕ → List ℕ → Bool
 passwordIs password b = same (textOf (passwordOf b)) password

@@ -1,4 +1,5 @@
 // One record taken: what the centre makes of it, and the line that tells it.
+use answers::reply;
 use lines::record;
 use lines::record::Order;
 use lines::text;
@@ -61,7 +62,7 @@ fn take(
     requires { ⌜ length (now text) ≡ lineRoom ⌝ }
     ensures { λ r. ⌜ (turned r (now (table .exit)) (now (text .exit)) ≡ answered (step (now (book .entry)) (world state (now (table .entry))) (Step.on session (record { octets = now (octets .entry); stamp = now (stamp .entry); space = zeroSpace })))) × Fits r (now (text .exit)) ⌝ }
 {
-    let mut space = [0u8; 44];
+    let mut space = [0u8; reply::SPACE_NEEDED];
     let took = centre::take::take(book, table, state, session, octets, stamp, &mut space);
     let next = took.state;
     let reply = octets::stretch::first(&space, took.written);
