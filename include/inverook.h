@@ -33,7 +33,7 @@ extern "C" {
 #define INVEROOK_WRONG_SIZE 3u      /* book not 512 octets or table not 32,768 */
 #define INVEROOK_SHORT_SPACE 4u     /* response space under 44 octets */
 #define INVEROOK_BAD_STAMP 5u       /* time stamp ill formed, or not 16 octets */
-#define INVEROOK_NOT_OPEN 6u        /* session not open, transmitter or receiver; on opening: not closed */
+#define INVEROOK_UNFIT_SESSION 6u   /* session not open, transmitter or receiver; on opening: not closed */
 #define INVEROOK_NO_ACCOUNT 7u      /* account number above 7 */
 #define INVEROOK_NO_OUTCOME 8u      /* outcome not 2, 3 or 5 */
 #define INVEROOK_ILL_FORMED 9u      /* account concerned is ill formed, or (taking octets) this session's entry names an account above 7 */

@@ -1,6 +1,7 @@
 //! Plays a history on two engines and compares everything that a caller can see.
 
 mod difference;
+mod digest;
 mod engine;
 mod history;
 mod shrink;
@@ -9,6 +10,7 @@ mod words;
 mod world;
 
 pub use difference::{compare, Difference};
+pub use digest::Digest;
 pub use engine::{Engine, Moved, Sent, Taken};
 pub use history::{History, Outcome, Sizes, Step, Take, PLAIN_STAMP};
 pub use shrink::shrink;

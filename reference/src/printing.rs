@@ -16,7 +16,8 @@ const OCTETS: u8 = 1;
 const CLOSE: u8 = 2;
 const OUTCOME: u8 = 3;
 
-const PAYLOAD: usize = 20;
+/// Where a record's payload begins.
+pub const PAYLOAD: usize = 20;
 const OUTCOME_LENGTH: usize = 7;
 
 /// What one record asks for.
@@ -65,7 +66,7 @@ impl RecordedReport {
     }
 
     /// The same report with the account as the centre takes it: any number, to be examined.
-    fn for_centre(self) -> Report {
+    pub(crate) fn for_centre(self) -> Report {
         Report {
             account: usize::from(self.account),
             id: self.id,

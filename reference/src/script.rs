@@ -26,9 +26,9 @@
 //! replace, coding and default; for `cancel`, to and service; for `replace`, schedule,
 //! validity, registered and default; for `outcome`, error.
 
-mod book;
-mod orders;
-mod words;
+pub(crate) mod book;
+pub(crate) mod orders;
+pub(crate) mod words;
 
 pub use book::book;
 pub use orders::{orders, ScriptedOrder};

@@ -1,4 +1,5 @@
 // cancel_sm: one message by its id, or all that wait between two addresses.
+use forms::field;
 use forms::text::MessageId;
 use records::layout;
 use store::places::Found;
@@ -6,6 +7,7 @@ use wire::status;
 ghost use mathlib.Core.Path.{_≡_};
 ghost use Prim.Native.Nat.{_<_};
 ghost use lib.ListN.{length};
+ghost use Rattle.forms.specs.Time.{timeLength};
 ghost use Rattle.records.specs.Layout.{places, partSize};
 ghost use Rattle.records.specs.Book.{bookRecordSize};
 ghost use Rattle.store.specs.Places.{recordAt, onPlace, onPlaces};
@@ -13,7 +15,12 @@ ghost use Rattle.account.specs.Cancel.{changed, cancellable, cancelledOn
 
 const DELETED: u8 = 4;
 
-fn is_cancellable(part: &[u8], k: usize, source: &[u8; 22], destination: &[u8; 22]) -> bool
+fn is_cancellable(
+    part: &[u8],
+    k: usize,
+    source: &[u8; field::ADDRESS_SIZE],
+    destination: &[u8; field::ADDRESS_SIZE],
+) -> bool
     requires { ⌜ (length (now part) ≡ partSize) × (k < places) ⌝ }
     ensures { λ x. ⌜ x ≡ cancellable (now (source .entry)) (now (destination .entry)) (recordAt k (now (part .entry))) ⌝ }
 {
@@ -31,11 +38,11 @@ fn is_cancellable(part: &[u8], k: usize, source: &[u8; 22], destination: &[u8; 2
 fn cancel_one(
     part: &mut [u8],
     id: u32,
-    source: &[u8; 22],
-    destination: &[u8; 22],
+    source: &[u8; field::ADDRESS_SIZE],
+    destination: &[u8; field::ADDRESS_SIZE],
     stamp: &[u8],
 ) -> u8
-    requires { ⌜ (length (now part) ≡ partSize) × (length (now stamp) ≡ 16) ⌝ }
+    requires { ⌜ (length (now part) ≡ partSize) × (length (now stamp) ≡ timeLength) ⌝ }
     ensures { λ r. ⌜ changed r (now (part .exit)) ≡ cancelledOne id (now (source .entry)) (now (destination .entry)) (now (stamp .entry)) (now (part .entry)) ⌝ }
 {
     let found = store::search::find_id(&part[..], id);
@@ -49,8 +56,14 @@ fn cancel_one(
     status::OK
 }
 
-fn delete_if(part: &mut [u8], k: usize, source: &[u8; 22], destination: &[u8; 22], stamp: &[u8])
-    requires { ⌜ ((length (now part) ≡ partSize) × (k < places)) × (length (now stamp) ≡ 16) ⌝ }
+fn delete_if(
+    part: &mut [u8],
+    k: usize,
+    source: &[u8; field::ADDRESS_SIZE],
+    destination: &[u8; field::ADDRESS_SIZE],
+    stamp: &[u8],
+)
+    requires { ⌜ ((length (now part) ≡ partSize) × (k < places)) × (length (now stamp) ≡ timeLength) ⌝ }
     ensures { λ _. ⌜ now (part .exit) ≡ onPlace (deletedIf (now (source .entry)) (now (destination .entry)) (now (stamp .entry))) k (now (part .entry)) ⌝ }
 {
     if store::search::is_pair_at(&part[..], k, source, destination) {
@@ -58,19 +71,29 @@ fn delete_if(part: &mut [u8], k: usize, source: &[u8; 22], destination: &[u8; 22
     }
 }
 
-fn delete_all(part: &mut [u8], source: &[u8; 22], destination: &[u8; 22], stamp: &[u8])
-    requires { ⌜ (length (now part) ≡ partSize) × (length (now stamp) ≡ 16) ⌝ }
+fn delete_all(
+    part: &mut [u8],
+    source: &[u8; field::ADDRESS_SIZE],
+    destination: &[u8; field::ADDRESS_SIZE],
+    stamp: &[u8],
+)
+    requires { ⌜ (length (now part) ≡ partSize) × (length (now stamp) ≡ timeLength) ⌝ }
     ensures { λ _. ⌜ now (part .exit) ≡ onPlaces (deletedIf (now (source .entry)) (now (destination .entry)) (now (stamp .entry))) places 0 (now (part .entry)) ⌝ }
 {
     let mut k: usize = 0;
-    while k < 16 {
+    while k < layout::PLACES {
         delete_if(part, k, source, destination, stamp);
         k += 1;
     }
 }
 
-fn cancel_all(part: &mut [u8], source: &[u8; 22], destination: &[u8; 22], stamp: &[u8]) -> u8
-    requires { ⌜ (length (now part) ≡ partSize) × (length (now stamp) ≡ 16) ⌝ }
+fn cancel_all(
+    part: &mut [u8],
+    source: &[u8; field::ADDRESS_SIZE],
+    destination: &[u8; field::ADDRESS_SIZE],
+    stamp: &[u8],
+) -> u8
+    requires { ⌜ (length (now part) ≡ partSize) × (length (now stamp) ≡ timeLength) ⌝ }
     ensures { λ r. ⌜ changed r (now (part .exit)) ≡ cancelledAll (now (source .entry)) (now (destination .entry)) (now (stamp .entry)) (now (part .entry)) ⌝ }
 {
     if destination[2] == 0 {
@@ -87,11 +110,11 @@ fn cancel_all(part: &mut [u8], source: &[u8; 22], destination: &[u8; 22], stamp:
 fn cancel_by(
     part: &mut [u8],
     id: MessageId,
-    source: &[u8; 22],
-    destination: &[u8; 22],
+    source: &[u8; field::ADDRESS_SIZE],
+    destination: &[u8; field::ADDRESS_SIZE],
     stamp: &[u8],
 ) -> u8
-    requires { ⌜ (length (now part) ≡ partSize) × (length (now stamp) ≡ 16) ⌝ }
+    requires { ⌜ (length (now part) ≡ partSize) × (length (now stamp) ≡ timeLength) ⌝ }
     ensures { λ r. ⌜ changed r (now (part .exit)) ≡ cancelledBy id (now (source .entry)) (now (destination .entry)) (now (stamp .entry)) (now (part .entry)) ⌝ }
 {
     match id {
@@ -101,7 +124,7 @@ fn cancel_by(
 }
 
 pub fn cancel(book: &[u8], part: &mut [u8], stamp: &[u8], body: &[u8]) -> u8
-    requires { ⌜ ((length (now book) ≡ bookRecordSize) × (length (now part) ≡ partSize)) × (length (now stamp) ≡ 16) ⌝ }
+    requires { ⌜ ((length (now book) ≡ bookRecordSize) × (length (now part) ≡ partSize)) × (length (now stamp) ≡ timeLength) ⌝ }
     ensures { λ r. ⌜ changed r (now (part .exit)) ≡ cancelled (now (book .entry)) (now (stamp .entry)) (now (body .entry)) (now (part .entry)) ⌝ }
 {
     let read = requests::cancel::read_cancel(body);

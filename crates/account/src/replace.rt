@@ -1,5 +1,6 @@
 // replace_sm.
 use changes::Correction;
+use forms::field;
 use records::layout;
 use requests::replace::Replace;
 use store::places::Found;
@@ -17,7 +18,7 @@ ghost use Rattle.store.specs.Search.{waiting};
 ghost use Rattle.account.specs.Cancel.{changed};
 ghost use Rattle.account.specs.Replace.{replacedIn, replaced};
 
-fn is_replaceable(part: &[u8], k: usize, source: &[u8; 22]) -> bool
+fn is_replaceable(part: &[u8], k: usize, source: &[u8; field::ADDRESS_SIZE]) -> bool
     requires { ⌜ (length (now part) ≡ partSize) × (k < places) ⌝ }
     ensures { λ r. ⌜ r ≡ (sameAddress (sourceOf (recordAt k (now (part .entry)))) (now (source .entry)) && waiting (recordAt k (now (part .entry)))) ⌝ }
 {
@@ -26,7 +27,7 @@ fn is_replaceable(part: &[u8], k: usize, source: &[u8; 22]) -> bool
         & (r[layout::STATE] == 1)
 }
 
-fn replace_in(part: &mut [u8], source: &[u8; 22], r: Replace, body: &[u8]) -> u8
+fn replace_in(part: &mut [u8], source: &[u8; field::ADDRESS_SIZE], r: Replace, body: &[u8]) -> u8
     requires { ⌜ (length (now part) ≡ partSize) × ReplaceInside r (now body) ⌝ }
     ensures { λ status. ⌜ changed status (now (part .exit)) ≡ replacedIn (now (source .entry)) r (now (body .entry)) (now (part .entry)) ⌝ }
 {

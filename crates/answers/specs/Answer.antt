@@ -17,29 +17,35 @@ pub record Outcome : Type 0 where
   pub state : ℕ
   pub error : ℕ
 
--- a number alone; of octets, also how many were consumed and written, and the response space; of a pick, also the record
+-- what is asked of an account: an outcome, a pick
+pub data Question : Type 0 where
+  outcome : Outcome → Question
+  pick : Question
+
+-- a number alone; of octets, also how many were consumed and written, and the response space; of a pick with number 0, the place picked and the
+-- record there
 pub data Answer : Type 0 where
   numbered : ℕ → Answer
   taken : ℕ → ℕ → ℕ → List ℕ → Answer
   picked : ℕ → List ℕ → Answer
 
--- its number, and the record of a pick
 abbrev pub numberOf : Answer → ℕ
 numberOf (numbered n) = n
 numberOf (taken n consumed written space) = n
-numberOf (picked n r) = n
+numberOf (picked k r) = 0
 
+-- the record of a pick; where the number isn't 0 it is empty
 abbrev pub pickedRecord : Answer → List ℕ
 pickedRecord (numbered n) = []
 pickedRecord (taken n consumed written space) = []
-pickedRecord (picked n r) = r
+pickedRecord (picked k r) = r
 
 -- every answer but 0 consumes nothing and writes nothing
 abbrev pub refusedOctets : ℕ → Octets → Answer
 refusedOctets number x = taken number 0 0 (x .space)
 
-abbrev pub refusedPick : ℕ → Answer
-refusedPick number = picked number []
+abbrev pub refusedQuestion : ℕ → Question → Answer
+refusedQuestion number q = numbered number
 
 -- one PDU of n octets taken and answered; taken and not answered
 abbrev pub repliedTo : ℕ → ℕ → ℕ → ℕ → List ℕ → List ℕ → Answer

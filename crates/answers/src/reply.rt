@@ -6,6 +6,9 @@ ghost use lib.ListN.{length};
 ghost use Rattle.octets.specs.Stretch.{patch};
 ghost use Rattle.answers.specs.Reply.{header, reply, submitResponse, queryResponse, spaceNeeded, noBody, bindBody, idText, submitBody, queryBody, wrote, over};
 
+// The longest reply: a query's, 16 + 9 + 17 + 2.
+pub const SPACE_NEEDED: usize = 44;
+
 pub const GENERIC_NAK: u32 = 0x8000_0000;
 
 pub const SUBMIT_RESPONSE: u32 = 0x8000_0004;

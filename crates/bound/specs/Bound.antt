@@ -1,5 +1,5 @@
--- Octets on a bound session (document 01, "From octets to a response" and "Effects"): what is asked of one account, given its book record,
--- its part of the table and its last id.
+-- Octets on a bound session (document 01, "From octets to a response" and "Effects"): what is asked of one account, given its book record
+-- and what is its own, its part of the table and its last id.
 use Prim.Native.Nat.{ℕ, _-_}
 use mathlib.Core.Bool.{Bool, true, false}
 use mathlib.Core.List.{List}
@@ -24,34 +24,32 @@ use Rattle.account.specs.Cancel.{Changed, cancelled}
 use Rattle.account.specs.Replace.{replaced}
 use Rattle.session.specs.declared.Entry.{Entry}
 use Rattle.session.specs.declared.Entry.the-variants.{Closed, Open, Transmitter, Receiver, Ended}
-use Rattle.isolation.specs.Platform.{Effect}
+use Rattle.isolation.specs.Platform.{Own, owning, Effect}
 use Rattle.bound.specs.declared.Acted.{Acted}
 use Rattle.answers.specs.Answer.{Octets, Answer, taken, refusedOctets, repliedTo, silent, nakLength}
 
--- ---- what a request gives: status, reply body, the account's part and last id, and whether the session ends
+-- ---- what a request gives: status, reply body, what is the account's own afterwards, and whether the session ends
 
 pub record Turn : Type 0 where
   pub status : ℕ
   pub body : List ℕ
-  pub part : List ℕ
-  pub last : ℕ
+  pub own : Own
   pub ends : Bool
 
--- the account stays as it was
-abbrev pub staying : ℕ → List ℕ → List ℕ → ℕ → Turn
-staying status body part last = record { status = status; body = body; part = part; last = last; ends = false }
+-- the session goes on
+abbrev pub turning : ℕ → List ℕ → Own → Turn
+turning status body own = record { status = status; body = body; own = own; ends = false }
 
--- the four need transmitter, else 4
-abbrev pub byTransmitter : Bool → List ℕ → List ℕ → ℕ → Turn → Turn
-byTransmitter transmitter body part last turn = if transmitter then turn else staying invalidBindStatus body part last
+-- the four need transmitter, else 4, and the account stays as it was
+abbrev pub byTransmitter : Bool → List ℕ → Own → Turn → Turn
+byTransmitter transmitter body own turn = if transmitter then turn else turning invalidBindStatus body own
 
-unfoldable pub submitTurn : Bool → List ℕ → List ℕ → List ℕ → ℕ → Turn
-submitTurn transmitter book body part last =
-    let s = submitted book body part last in
-    byTransmitter transmitter (submitBody Empty) part last
-    (record { status = s .status; body = submitBody (s .id); part = s .part; last = s .last; ends = false })
+unfoldable pub submitTurn : Bool → List ℕ → List ℕ → Own → Turn
+submitTurn transmitter book body own =
+    let s = submitted book body (own .part) (own .last) in
+    byTransmitter transmitter (submitBody Empty) own (turning (s .status) (submitBody (s .id)) (owning (s .part) (s .last)))
 
--- wire values of message states: 002's 7.4 counts them from 0
+-- wire values of message states: 002's 7.4 lists them in this order and gives no numbers; we count from 0
 abbrev pub wireState : ℕ → ℕ
 wireState state = state - 1
 
@@ -59,65 +57,65 @@ wireState state = state - 1
 abbrev pub foundBody : List ℕ → List ℕ
 foundBody r = queryBody (Number (idOf r)) (textOf (dateOf r)) (wireState (stateOf r)) (errorOf r)
 
-unfoldable pub queryTurn : Bool → List ℕ → List ℕ → List ℕ → ℕ → Turn
-queryTurn transmitter book body part last =
-    let q = queried book body part in
-    byTransmitter transmitter noQuery part last
-    (onFound (q .place) (λ k. staying (q .status) (foundBody (recordAt k part)) part last) (staying (q .status) noQuery part last))
+unfoldable pub queryTurn : Bool → List ℕ → List ℕ → Own → Turn
+queryTurn transmitter book body own =
+    let q = queried book body (own .part) in
+    byTransmitter transmitter noQuery own
+    (onFound (q .place) (λ k. turning (q .status) (foundBody (recordAt k (own .part))) own) (turning (q .status) noQuery own))
 
-abbrev pub changing : Changed → ℕ → Turn
-changing c last = record { status = c .status; body = noBody; part = c .part; last = last; ends = false }
+-- the part changes, the last id stays
+abbrev pub changing : Changed → Own → Turn
+changing c own = turning (c .status) noBody (owning (c .part) (own .last))
 
-unfoldable pub cancelTurn : Bool → List ℕ → List ℕ → List ℕ → List ℕ → ℕ → Turn
-cancelTurn transmitter book stamp body part last =
-    byTransmitter transmitter noBody part last (changing (cancelled book stamp body part) last)
+unfoldable pub cancelTurn : Bool → List ℕ → List ℕ → List ℕ → Own → Turn
+cancelTurn transmitter book stamp body own = byTransmitter transmitter noBody own (changing (cancelled book stamp body (own .part)) own)
 
-unfoldable pub replaceTurn : Bool → List ℕ → List ℕ → List ℕ → ℕ → Turn
-replaceTurn transmitter book body part last =
-    byTransmitter transmitter noBody part last (changing (replaced book body part) last)
+unfoldable pub replaceTurn : Bool → List ℕ → List ℕ → Own → Turn
+replaceTurn transmitter book body own = byTransmitter transmitter noBody own (changing (replaced book body (own .part)) own)
 
 -- on success the session is ended
-unfoldable pub unbindTurn : List ℕ → List ℕ → ℕ → Turn
-unbindTurn body part last = record { status = plainOf body; body = noBody; part = part; last = last; ends = eqb (plainOf body) 0 }
+unfoldable pub unbindTurn : List ℕ → Own → Turn
+unbindTurn body own = record { status = plainOf body; body = noBody; own = own; ends = eqb (plainOf body) 0 }
 
 -- ---- the answer to a PDU of n octets
 
 unfoldable pub replying : ℕ → ℕ → ℕ → Turn → List ℕ → Effect Answer
-replying n id sequence t space =
-    record { answer = repliedTo n id (t .status) sequence (t .body) space; part = t .part; last = t .last; ends = t .ends }
+replying n id sequence t space = record { answer = repliedTo n id (t .status) sequence (t .body) space; own = t .own; ends = t .ends }
 
-abbrev pub keeping : Answer → List ℕ → ℕ → Effect Answer
-keeping answer part last = record { answer = answer; part = part; last = last; ends = false }
+-- the account stays as it was, and the session goes on
+abbrev pub keeping : Answer → Own → Effect Answer
+keeping answer own = record { answer = answer; own = own; ends = false }
 
 -- a PDU of n octets; the binds need open, else 5
-module _ (transmitter : Bool) (book stamp : List ℕ) (n sequence : ℕ) (body space part : List ℕ) (last : ℕ) where
+module _ (transmitter : Bool) (book stamp : List ℕ) (n sequence : ℕ) (body space : List ℕ) (own : Own) where
   abbrev pub boundCommand : Command → Effect Answer
-  boundCommand BindReceiver = replying n (responseTo 1) sequence (staying alreadyBound bindBody part last) space
-  boundCommand BindTransmitter = replying n (responseTo 2) sequence (staying alreadyBound bindBody part last) space
-  boundCommand QuerySm = replying n (responseTo 3) sequence (queryTurn transmitter book body part last) space
-  boundCommand SubmitSm = replying n (responseTo 4) sequence (submitTurn transmitter book body part last) space
-  boundCommand Unbind = replying n (responseTo 6) sequence (unbindTurn body part last) space
-  boundCommand ReplaceSm = replying n (responseTo 7) sequence (replaceTurn transmitter book body part last) space
-  boundCommand CancelSm = replying n (responseTo 8) sequence (cancelTurn transmitter book stamp body part last) space
-  boundCommand EnquireLink = replying n (responseTo 0x15) sequence (staying (plainOf body) noBody part last) space
-  boundCommand Response = keeping (silent n space) part last
-  boundCommand Unknown = replying n genericNak sequence (staying invalidCommandId noBody part last) space
+  boundCommand BindReceiver = replying n (responseTo 1) sequence (turning alreadyBound bindBody own) space
+  boundCommand BindTransmitter = replying n (responseTo 2) sequence (turning alreadyBound bindBody own) space
+  boundCommand QuerySm = replying n (responseTo 3) sequence (queryTurn transmitter book body own) space
+  boundCommand SubmitSm = replying n (responseTo 4) sequence (submitTurn transmitter book body own) space
+  boundCommand Unbind = replying n (responseTo 6) sequence (unbindTurn body own) space
+  boundCommand ReplaceSm = replying n (responseTo 7) sequence (replaceTurn transmitter book body own) space
+  boundCommand CancelSm = replying n (responseTo 8) sequence (cancelTurn transmitter book stamp body own) space
+  boundCommand EnquireLink = replying n (responseTo 0x15) sequence (turning (plainOf body) noBody own) space
+  boundCommand Response = keeping (silent n space) own
+  boundCommand Unknown = replying n genericNak sequence (turning invalidCommandId noBody own) space
 
-abbrev pub boundPdu : Bool → List ℕ → List ℕ → List ℕ → List ℕ → List ℕ → ℕ → Effect Answer
-boundPdu transmitter book stamp pdu space part last =
+abbrev pub boundPdu : Bool → List ℕ → List ℕ → List ℕ → List ℕ → Own → Effect Answer
+boundPdu transmitter book stamp pdu space own =
     let h = headerOf pdu in
-    boundCommand transmitter book stamp (length pdu) (h .sequence) (drop 16 pdu) space part last (commandOf (h .command))
+    boundCommand transmitter book stamp (length pdu) (h .sequence) (drop 16 pdu) space own (commandOf (h .command))
 
-abbrev pub boundFrame : Bool → List ℕ → List ℕ → List ℕ → List ℕ → Frame → List ℕ → ℕ → Effect Answer
-boundFrame transmitter book octets stamp space More part last = keeping (taken 1 0 0 space) part last
-boundFrame transmitter book octets stamp space Malformed part last = record { answer = nakLength space; part = part; last = last; ends = true }
-boundFrame transmitter book octets stamp space (Whole n) part last = boundPdu transmitter book stamp (take n octets) space part last
+abbrev pub boundFrame : Bool → List ℕ → List ℕ → List ℕ → List ℕ → Frame → Own → Effect Answer
+boundFrame transmitter book octets stamp space More own = keeping (taken 1 0 0 space) own
+boundFrame transmitter book octets stamp space Malformed own = record { answer = nakLength space; own = own; ends = true }
+boundFrame transmitter book octets stamp space (Whole n) own = boundPdu transmitter book stamp (take n octets) space own
 
 -- 9 for the bound account, then the octets
-unfoldable pub onBound : Bool → List ℕ → Octets → List ℕ → ℕ → Effect Answer
-onBound transmitter book x part last =
-    if accountOk book last part then boundFrame transmitter book (x .octets) (x .stamp) (x .space) (frameOf (x .octets)) part last
-    else keeping (refusedOctets 9 x) part last
+unfoldable pub onBound : Bool → List ℕ → Octets → Own → Effect Answer
+onBound transmitter book x own =
+    if accountOk book (own .last) (own .part)
+    then boundFrame transmitter book (x .octets) (x .stamp) (x .space) (frameOf (x .octets)) own
+    else keeping (refusedOctets 9 x) own
 
 abbrev pub isTransmitter : Entry → Bool
 isTransmitter Closed = false
@@ -129,4 +127,4 @@ isTransmitter Ended = false
 -- what the code gives, as that
 abbrev pub acts : Acted → List ℕ → List ℕ → Effect Answer
 acts r part space =
-    record { answer = taken (r .number) (r .consumed) (r .written) space; part = part; last = r .last; ends = r .ends }
+    record { answer = taken (r .number) (r .consumed) (r .written) space; own = owning part (r .last); ends = r .ends }

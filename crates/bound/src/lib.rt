@@ -20,6 +20,7 @@ ghost use Rattle.answers.specs.Reply.{spaceNeeded, bindBody, reply, over, wrote
 ghost use Rattle.records.specs.Layout.{places, partSize};
 ghost use Rattle.records.specs.Book.{bookRecordSize};
 ghost use Rattle.store.specs.Places.{recordAt};
+ghost use Rattle.isolation.specs.Platform.{owning};
 ghost use Rattle.bound.specs.Bound.{wireState, foundBody, submitTurn, queryTurn, cancelTurn, replaceTurn, unbindTurn, replying, boundPdu, boundFrame, onBound, acts};
 
 // What an account's turn comes to; its part stands where it was lent.
@@ -67,7 +68,7 @@ fn submit_turn(
     last: u32,
 ) -> Acted
     requires { ⌜ (length (now book) ≡ bookRecordSize) × ((length (now part) ≡ partSize) × (spaceNeeded ≤ length (now space))) ⌝ }
-    ensures { λ r. ⌜ acts r (now (part .exit)) (now (space .exit)) ≡ replying consumed 0x80000004 sequence (submitTurn transmitter (now (book .entry)) (now (body .entry)) (now (part .entry)) last) (now (space .entry)) ⌝ }
+    ensures { λ r. ⌜ acts r (now (part .exit)) (now (space .exit)) ≡ replying consumed 0x80000004 sequence (submitTurn transmitter (now (book .entry)) (now (body .entry)) (owning (now (part .entry)) last)) (now (space .entry)) ⌝ }
 {
     if !transmitter {
         let written = fixed::no_submission(space, sequence);
@@ -117,7 +118,7 @@ fn query_turn(
     last: u32,
 ) -> Acted
     requires { ⌜ (length (now book) ≡ bookRecordSize) × ((length (now part) ≡ partSize) × (spaceNeeded ≤ length (now space))) ⌝ }
-    ensures { λ r. ⌜ acts r (now (part .entry)) (now (space .exit)) ≡ replying consumed 0x80000003 sequence (queryTurn transmitter (now (book .entry)) (now (body .entry)) (now (part .entry)) last) (now (space .entry)) ⌝ }
+    ensures { λ r. ⌜ acts r (now (part .entry)) (now (space .exit)) ≡ replying consumed 0x80000003 sequence (queryTurn transmitter (now (book .entry)) (now (body .entry)) (owning (now (part .entry)) last)) (now (space .entry)) ⌝ }
 {
     if !transmitter {
         let written = fixed::no_query(space, status::INVALID_BIND_STATUS, sequence);
@@ -145,7 +146,7 @@ fn cancel_turn(
     last: u32,
 ) -> Acted
     requires { ⌜ ((length (now book) ≡ bookRecordSize) × (length (now stamp) ≡ 16)) × ((length (now part) ≡ partSize) × (spaceNeeded ≤ length (now space))) ⌝ }
-    ensures { λ r. ⌜ acts r (now (part .exit)) (now (space .exit)) ≡ replying consumed 0x80000008 sequence (cancelTurn transmitter (now (book .entry)) (now (stamp .entry)) (now (body .entry)) (now (part .entry)) last) (now (space .entry)) ⌝ }
+    ensures { λ r. ⌜ acts r (now (part .exit)) (now (space .exit)) ≡ replying consumed 0x80000008 sequence (cancelTurn transmitter (now (book .entry)) (now (stamp .entry)) (now (body .entry)) (owning (now (part .entry)) last)) (now (space .entry)) ⌝ }
 {
     if !transmitter {
         let written = fixed::wrong_state(space, 0x8000_0008, sequence);
@@ -167,7 +168,7 @@ fn replace_turn(
     last: u32,
 ) -> Acted
     requires { ⌜ (length (now book) ≡ bookRecordSize) × ((length (now part) ≡ partSize) × (spaceNeeded ≤ length (now space))) ⌝ }
-    ensures { λ r. ⌜ acts r (now (part .exit)) (now (space .exit)) ≡ replying consumed 0x80000007 sequence (replaceTurn transmitter (now (book .entry)) (now (body .entry)) (now (part .entry)) last) (now (space .entry)) ⌝ }
+    ensures { λ r. ⌜ acts r (now (part .exit)) (now (space .exit)) ≡ replying consumed 0x80000007 sequence (replaceTurn transmitter (now (book .entry)) (now (body .entry)) (owning (now (part .entry)) last)) (now (space .entry)) ⌝ }
 {
     if !transmitter {
         let written = fixed::wrong_state(space, 0x8000_0007, sequence);
@@ -180,7 +181,7 @@ fn replace_turn(
 
 fn unbind_turn(consumed: usize, sequence: u32, body: &[u8], space: &mut [u8], last: u32) -> Acted
     requires { ⌜ spaceNeeded ≤ length (now space) ⌝ }
-    ensures { λ r. ⌜ acts r [] (now (space .exit)) ≡ replying consumed 0x80000006 sequence (unbindTurn (now (body .entry)) [] last) (now (space .entry)) ⌝ }
+    ensures { λ r. ⌜ acts r [] (now (space .exit)) ≡ replying consumed 0x80000006 sequence (unbindTurn (now (body .entry)) (owning [] last)) (now (space .entry)) ⌝ }
 {
     let status = requests::plain::read_plain(body);
     let written = reply::bare(space, 0x8000_0006, status, sequence);
@@ -211,7 +212,7 @@ fn command(
     last: u32,
 ) -> Acted
     requires { ⌜ ((length (now book) ≡ bookRecordSize) × (length (now stamp) ≡ 16)) × ((16 ≤ length (now pdu)) × ((length (now part) ≡ partSize) × (spaceNeeded ≤ length (now space)))) ⌝ }
-    ensures { λ r. ⌜ acts r (now (part .exit)) (now (space .exit)) ≡ boundPdu transmitter (now (book .entry)) (now (stamp .entry)) (now (pdu .entry)) (now (space .entry)) (now (part .entry)) last ⌝ }
+    ensures { λ r. ⌜ acts r (now (part .exit)) (now (space .exit)) ≡ boundPdu transmitter (now (book .entry)) (now (stamp .entry)) (now (pdu .entry)) (now (space .entry)) (owning (now (part .entry)) last) ⌝ }
 {
     let header = frame::read_header(pdu);
     let id = header.command;
@@ -257,7 +258,7 @@ fn framed(
     last: u32,
 ) -> Acted
     requires { ⌜ ((length (now book) ≡ bookRecordSize) × (length (now stamp) ≡ 16)) × ((length (now part) ≡ partSize) × (spaceNeeded ≤ length (now space))) ⌝ }
-    ensures { λ r. ⌜ acts r (now (part .exit)) (now (space .exit)) ≡ boundFrame transmitter (now (book .entry)) (now (octets .entry)) (now (stamp .entry)) (now (space .entry)) (frameOf (now (octets .entry))) (now (part .entry)) last ⌝ }
+    ensures { λ r. ⌜ acts r (now (part .exit)) (now (space .exit)) ≡ boundFrame transmitter (now (book .entry)) (now (octets .entry)) (now (stamp .entry)) (now (space .entry)) (frameOf (now (octets .entry))) (owning (now (part .entry)) last) ⌝ }
 {
     let first = frame::frame_of(octets);
     match first {
@@ -287,7 +288,7 @@ pub fn on_bound(
     last: u32,
 ) -> Acted
     requires { ⌜ ((length (now book) ≡ bookRecordSize) × (length (now stamp) ≡ 16)) × ((length (now part) ≡ partSize) × (spaceNeeded ≤ length (now space))) ⌝ }
-    ensures { λ r. ⌜ acts r (now (part .exit)) (now (space .exit)) ≡ onBound transmitter (now (book .entry)) (record { octets = now (octets .entry); stamp = now (stamp .entry); space = now (space .entry) }) (now (part .entry)) last ⌝ }
+    ensures { λ r. ⌜ acts r (now (part .exit)) (now (space .exit)) ≡ onBound transmitter (now (book .entry)) (record { octets = now (octets .entry); stamp = now (stamp .entry); space = now (space .entry) }) (owning (now (part .entry)) last) ⌝ }
 {
     if store::account::is_account_ok(book, last, &part[..]) {
         framed(transmitter, book, octets, stamp, space, part, last)

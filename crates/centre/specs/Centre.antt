@@ -11,13 +11,13 @@ use Rattle.answers.specs.Reply.{spaceNeeded}
 use Rattle.records.specs.Book.{bookSize, bookRecord}
 use Rattle.session.specs.declared.State.{State}
 use Rattle.session.specs.declared.Moved.{Moved}
-use Rattle.isolation.specs.Platform.{World, Step, Ran, Effect, Request, taken, reported, picked, Machine, tableSize}
+use Rattle.isolation.specs.Platform.{World, Own, Step, Ran, Effect, Request, onSession, ofAccount, Machine, tableSize}
 use Rattle.isolation.specs.Platform as P
-use Rattle.answers.specs.Answer.{Octets, Outcome, Answer, numbered, refusedOctets, refusedPick}
+use Rattle.answers.specs.Answer.{Octets, Question, outcome, pick, Answer, numbered, refusedOctets, refusedQuestion}
 use Rattle.answers.specs.Answer as A
 use Rattle.open.specs.Open.{onOpen}
 use Rattle.bound.specs.Bound.{isTransmitter, onBound}
-use Rattle.centre.specs.Operations.{onOutcome, onPick}
+use Rattle.centre.specs.Operations.{onQuestion}
 use Rattle.centre.specs.declared.take.Taken.{Taken}
 
 -- 3: book not 512 octets or table not 32,768
@@ -42,40 +42,37 @@ outcomeEarly book table stamp =
     else if not (sentTime stamp) then 5
     else 0
 
-abbrev pub earlyOutcome : List ℕ → ℕ → Outcome → ℕ
-earlyOutcome book table x = outcomeEarly (length book) table (x .stamp)
-
 -- picking: 3
 unfoldable pub pickEarly : ℕ → ℕ → ℕ
 pickEarly book table = if wrongSizes book table then 3 else 0
 
-abbrev pub earlyPick : List ℕ → ℕ → ℕ
-earlyPick book table = pickEarly (length book) table
+abbrev pub earlyQuestion : List ℕ → ℕ → Question → ℕ
+earlyQuestion book table (outcome x) = outcomeEarly (length book) table (x .stamp)
+earlyQuestion book table pick = pickEarly (length book) table
 
 -- account a sees its own book record
-unfoldable pub act : List ℕ → ℕ → Request Octets Outcome → List ℕ → ℕ → Effect Answer
-act book a (taken entry x) part last = onBound (isTransmitter entry) (bookRecord a book) x part last
-act book a (reported x) part last = onOutcome (bookRecord a book) x part last
-act book a picked part last = onPick (bookRecord a book) part last
+unfoldable pub act : List ℕ → ℕ → Request Octets Question → Own → Effect Answer
+act book a (onSession entry x) own = onBound (isTransmitter entry) (bookRecord a book) x own
+act book a (ofAccount q) own = onQuestion (bookRecord a book) q own
 
+-- on a session octets are taken; of an account a question is asked
 abbrev pub centre : Machine
 centre =
     record {
       Book = List ℕ;
-      T = Octets;
-      O = Outcome;
+      X = Octets;
+      Q = Question;
       R = Answer;
       numbered = numbered;
-      refusedOctets = refusedOctets;
-      refusedPick = refusedPick;
-      earlyOctets = earlyOctets;
-      earlyOutcome = earlyOutcome;
-      earlyPick = earlyPick;
+      refusedOn = refusedOctets;
+      refusedOf = refusedQuestion;
+      earlyOn = earlyOctets;
+      earlyOf = earlyQuestion;
       front = onOpen;
       act = act;
     }
 
-abbrev pub step : List ℕ → World → Step Octets Outcome → Ran Answer
+abbrev pub step : List ℕ → World → Step Octets Question → Ran Answer
 step book w st = P.step centre book w st
 
 -- ---- what the code gives, as what a step gives

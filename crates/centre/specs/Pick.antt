@@ -1,37 +1,46 @@
 -- What the code of an outcome and a pick gives, as the answers of the definition.
-use Prim.Native.Nat.{ℕ, _+_, _<_, _≤_}
+use Prim.Native.Nat.{ℕ, _+_, _*_, _<_}
 use mathlib.Core.Path.{_≡_}
-use mathlib.Core.List.{List, []}
+use mathlib.Core.List.{List}
 use lib.ListN.{length}
-use Rattle.octets.specs.Stretch.{part}
+use Rattle.octets.specs.Lent.{Lent, lentFirst, lentPart}
 use Rattle.records.specs.Layout.{recordSize, places}
 use Rattle.records.specs.Book.{bookSize}
 use Rattle.store.specs.Places.{recordAt}
-use Rattle.isolation.specs.Platform.{tableSize}
-use Rattle.answers.specs.Answer.{Answer, picked}
+use Rattle.session.specs.State.{accountCount}
+use Rattle.isolation.specs.Platform.{partSize, tableSize}
+use Rattle.answers.specs.Answer.{Answer, numbered, taken, picked}
 use Rattle.centre.specs.declared.operations.Placed.{Placed}
 use Rattle.centre.specs.declared.operations.Placed.the-variants.{Refused, Place}
-use Rattle.centre.specs.declared.operations.Located.{Located}
-use Rattle.centre.specs.declared.operations.Located.the-variants.{At}
-use Rattle.centre.specs.declared.operations.Located.the-variants as L
+
+-- place k (0-15) of account a (0-7) starts at octet 4096a + 256k
+abbrev pub startOf : ℕ → ℕ → ℕ
+startOf a k = partSize * a + recordSize * k
+
+-- what a pick returns: "the 256-octet record itself as part of the lent table"; where the number isn't 0, the empty part at the table's front
+abbrev pub pickedPart : ℕ → Answer → Lent → Lent
+pickedPart a (numbered n) table = lentFirst 0 table
+pickedPart a (taken n consumed written space) table = lentFirst 0 table
+pickedPart a (picked k r) table = lentPart (startOf a k) recordSize table
 
 -- a place of an account's part
 abbrev pub placed : Placed → List ℕ → Answer
-placed (Refused n) xs = picked n []
-placed (Place k) xs = picked 0 (recordAt k xs)
+placed (Refused n) xs = numbered n
+placed (Place k) xs = picked k (recordAt k xs)
 
-abbrev pub PlacedInside : Placed → Type 0
-PlacedInside (Refused n) = Unit
-PlacedInside (Place k) = k < places
+abbrev pub OnePlace : Placed → Type 0
+OnePlace (Refused n) = Unit
+OnePlace (Place k) = k < places
 
--- an octet of the table
-abbrev pub located : Located → List ℕ → Answer
-located (L.Refused n) table = picked n []
-located (At at) table = picked 0 (part at recordSize table)
+-- a place of one of the accounts, in a whole table
+pub record WithinTable (a k : ℕ) (table : List ℕ) : Type 0 where
+  pub accountFits : a < accountCount
+  pub placeFits : k < places
+  pub tableFits : length table ≡ tableSize
 
-abbrev pub LocatedInside : Located → List ℕ → Type 0
-LocatedInside (L.Refused n) table = Unit
-LocatedInside (At at) table = at + recordSize ≤ length table
+abbrev pub Inside : Placed → ℕ → List ℕ → Type 0
+Inside (Refused n) a table = Unit
+Inside (Place k) a table = WithinTable a k table
 
 -- what no early number tells of the arguments
 pub record Sized (book table : ℕ) : Type 0 where

@@ -1,19 +1,23 @@
 // Reporting an outcome and picking the next message to send.
 use crate::sizes;
+use records::layout;
 use session::State;
 use session::number;
 use store::places::Found;
 ghost use mathlib.Core.Path.{_≡_};
 ghost use Prim.Native.Nat.{_<_};
 ghost use lib.ListN.{length};
+ghost use Rattle.octets.specs.Lent.{lent};
 ghost use Rattle.records.specs.Layout.{partSize};
 ghost use Rattle.records.specs.Book.{bookRecordSize};
-ghost use Rattle.isolation.specs.Platform.{Step};
-ghost use Rattle.answers.specs.Answer.{numbered, numberOf, pickedRecord};
+ghost use Rattle.records.specs.Layout.{places};
+ghost use Rattle.session.specs.State.{accountCount};
+ghost use Rattle.isolation.specs.Platform.{Step, owning, partOf};
+ghost use Rattle.answers.specs.Answer.{Question, numbered, numberOf, pickedRecord};
 ghost use Rattle.bound.specs.Bound.{keeping};
 ghost use Rattle.centre.specs.Operations.{outcomeOk, onOutcome, onPick};
 ghost use Rattle.centre.specs.Centre.{outcomeEarly, pickEarly, step, world, reports};
-ghost use Rattle.centre.specs.Pick.{placed, PlacedInside, located, LocatedInside, Stamped, Sized};
+ghost use Rattle.centre.specs.Pick.{startOf, pickedPart, placed, OnePlace, Inside, Stamped, Sized};
 
 fn check_outcome(book: usize, table: usize, stamp: &[u8]) -> u8
     ensures { λ r. ⌜ (r ≡ outcomeEarly book table (now (stamp .entry))) × (r ≡ 0 → Stamped book table (now (stamp .entry))) ⌝ }
@@ -43,7 +47,7 @@ fn on_outcome(
     error: u8,
 ) -> u8
     requires { ⌜ (length (now book) ≡ bookRecordSize) × ((length (now part) ≡ partSize) × (length (now stamp) ≡ 16)) ⌝ }
-    ensures { λ r. ⌜ keeping (numbered r) (now (part .exit)) last ≡ onOutcome (now (book .entry)) (record { stamp = now (stamp .entry); id = id; state = state; error = error }) (now (part .entry)) last ⌝ }
+    ensures { λ r. ⌜ keeping (numbered r) (owning (now (part .exit)) last) ≡ onOutcome (now (book .entry)) (record { stamp = now (stamp .entry); id = id; state = state; error = error }) (owning (now (part .entry)) last) ⌝ }
 {
     if !is_outcome(state) {
         return number::NO_OUTCOME;
@@ -51,7 +55,11 @@ fn on_outcome(
     if !store::account::is_account_ok(book, last, &part[..]) {
         return number::ACCOUNT_ILL_FORMED;
     }
-    account::outcome::report(part, stamp, id, state, error)
+    if account::outcome::report(part, stamp, id, state, error) {
+        number::DONE
+    } else {
+        number::NOT_WAITING
+    }
 }
 
 // Stores state, error code and final date of a waiting message. The first number that applies is given: 3, 5, 7, 8, 9, 10.
@@ -65,21 +73,21 @@ pub fn outcome(
     outcome: u8,
     error: u8,
 ) -> u8
-    ensures { λ r. ⌜ reports r state (now (table .exit)) ≡ step (now (book .entry)) (world state (now (table .entry))) (Step.outcome account (record { stamp = now (stamp .entry); id = id; state = outcome; error = error })) ⌝ }
+    ensures { λ r. ⌜ reports r state (now (table .exit)) ≡ step (now (book .entry)) (world state (now (table .entry))) (Step.of account (Question.outcome (record { stamp = now (stamp .entry); id = id; state = outcome; error = error }))) ⌝ }
 {
     let early = check_outcome(book.len(), table.len(), stamp);
     if early != 0 {
         return early;
     }
-    if 8 <= account {
+    if layout::ACCOUNTS <= account {
         return number::NO_ACCOUNT;
     }
     let record = records::book::record_of(book, account);
     let last = state.last(account);
-    let at = 4096 * account;
+    let at = layout::PART_SIZE * account;
     on_outcome(
         record,
-        &mut table[at..at + 4096],
+        &mut table[at..at + layout::PART_SIZE],
         last,
         stamp,
         id,
@@ -96,7 +104,7 @@ pub enum Placed {
 
 fn on_pick(book: &[u8], part: &[u8], last: u32) -> Placed
     requires { ⌜ (length (now book) ≡ bookRecordSize) × (length (now part) ≡ partSize) ⌝ }
-    ensures { λ r. ⌜ (keeping (placed r (now (part .entry))) (now (part .entry)) last ≡ onPick (now (book .entry)) (now (part .entry)) last) × PlacedInside r ⌝ }
+    ensures { λ r. ⌜ (keeping (placed r (now (part .entry))) (owning (now (part .entry)) last) ≡ onPick (now (book .entry)) (owning (now (part .entry)) last)) × OnePlace r ⌝ }
 {
     if !store::account::is_account_ok(book, last, part) {
         return Placed::Refused(number::ACCOUNT_ILL_FORMED);
@@ -106,12 +114,6 @@ fn on_pick(book: &[u8], part: &[u8], last: u32) -> Placed
         Found::At(k) => Placed::Place(k),
         Found::Nowhere => Placed::Refused(number::NOTHING_WAITING),
     }
-}
-
-// The octet of the table at which the picked record starts, or the number why none is.
-pub enum Located {
-    Refused(u8),
-    At(usize),
 }
 
 fn check_pick(book: usize, table: usize) -> u8
@@ -124,44 +126,52 @@ fn check_pick(book: usize, table: usize) -> u8
     }
 }
 
-fn locate(book: &[u8], table: &[u8], state: State, account: usize) -> Located
-    ensures { λ r. ⌜ (located r (now (table .entry)) ≡ step (now (book .entry)) (world state (now (table .entry))) (Step.picks account) .answer) × LocatedInside r (now (table .entry)) ⌝ }
+// The account's place that is picked. The account is tested here, once, for the number, the part and the octet that callers make of it.
+pub fn locate(book: &[u8], table: &[u8], state: State, account: usize) -> Placed
+    ensures { λ r. ⌜ (placed r (partOf account (now (table .entry))) ≡ step (now (book .entry)) (world state (now (table .entry))) (Step.of account Question.pick) .answer) × Inside r account (now (table .entry)) ⌝ }
 {
     let early = check_pick(book.len(), table.len());
     if early != 0 {
-        return Located::Refused(early);
+        return Placed::Refused(early);
     }
-    if 8 <= account {
-        return Located::Refused(number::NO_ACCOUNT);
+    if layout::ACCOUNTS <= account {
+        return Placed::Refused(number::NO_ACCOUNT);
     }
     let record = records::book::record_of(book, account);
     let last = state.last(account);
-    let at = 4096 * account;
-    let placed = on_pick(record, &table[at..at + 4096], last);
-    match placed {
-        Placed::Refused(n) => Located::Refused(n),
-        Placed::Place(k) => Located::At(at + 256 * k),
-    }
+    let at = layout::PART_SIZE * account;
+    on_pick(record, &table[at..at + layout::PART_SIZE], last)
+}
+
+// The octet of the table at which a place of an account starts.
+pub fn start_of(account: usize, place: usize) -> usize
+    requires { ⌜ (account < accountCount) × (place < places) ⌝ }
+    ensures { λ r. ⌜ r ≡ startOf account place ⌝ }
+{
+    layout::PART_SIZE * account + layout::RECORD_SIZE * place
 }
 
 // Whether there is a message to send: 3, 7, 9, 11, or 0.
 pub fn pick_number(book: &[u8], table: &[u8], state: State, account: usize) -> u8
-    ensures { λ r. ⌜ r ≡ numberOf (step (now (book .entry)) (world state (now (table .entry))) (Step.picks account) .answer) ⌝ }
+    ensures { λ r. ⌜ r ≡ numberOf (step (now (book .entry)) (world state (now (table .entry))) (Step.of account Question.pick) .answer) ⌝ }
 {
-    let located = locate(book, table, state, account);
-    match located {
-        Located::Refused(n) => n,
-        Located::At(_) => number::DONE,
+    let placed = locate(book, table, state, account);
+    match placed {
+        Placed::Refused(n) => n,
+        Placed::Place(_) => number::DONE,
     }
 }
 
 // The record itself, as part of the table, where the number is 0; else nothing.
 pub fn pick<'a>(book: &[u8], table: &'a [u8], state: State, account: usize) -> &'a [u8]
-    ensures { λ r. ⌜ now r ≡ pickedRecord (step (now (book .entry)) (world state (now (table .entry))) (Step.picks account) .answer) ⌝ }
+    ensures { λ r. ⌜ (lent r ≡ pickedPart account (step (now (book .entry)) (world state (now (table .entry))) (Step.of account Question.pick) .answer) (lent (table .entry))) × (now r ≡ pickedRecord (step (now (book .entry)) (world state (now (table .entry))) (Step.of account Question.pick) .answer)) ⌝ }
 {
-    let located = locate(book, table, state, account);
-    match located {
-        Located::Refused(_) => &table[..0],
-        Located::At(at) => &table[at..at + 256],
+    let placed = locate(book, table, state, account);
+    match placed {
+        Placed::Refused(_) => &table[..0],
+        Placed::Place(k) => {
+            let at = start_of(account, k);
+            &table[at..at + layout::RECORD_SIZE]
+        }
     }
 }

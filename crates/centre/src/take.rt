@@ -1,5 +1,7 @@
 // Taking octets on a session.
 use crate::sizes;
+use answers::reply;
+use records::layout;
 use session::Entry;
 use session::State;
 use session::number;
@@ -11,7 +13,7 @@ ghost use Rattle.answers.specs.Reply.{spaceNeeded};
 ghost use Rattle.records.specs.Book.{bookSize};
 ghost use Rattle.session.specs.State.{sessionCount, bound};
 ghost use Rattle.session.specs.declared.Entry.the-variants.{Open};
-ghost use Rattle.isolation.specs.Platform.{tableSize, Step, octetsOf, octetsOn};
+ghost use Rattle.isolation.specs.Platform.{tableSize, Step, onAccount, onEntry};
 ghost use Rattle.octets.specs.Choice.{if_then_else_};
 ghost use Rattle.bound.specs.Bound.{isTransmitter};
 ghost use Rattle.centre.specs.Centre.{octetsEarly, Fit, centre, step, world, takes};
@@ -42,7 +44,7 @@ fn check(book: usize, table: usize, stamp: &[u8], space: usize) -> u8
     if sizes::is_wrong(book, table) {
         return number::WRONG_SIZE;
     }
-    if space < 44 {
+    if space < reply::SPACE_NEEDED {
         return number::SPACE_TOO_SHORT;
     }
     if !forms::time::is_sent_time(stamp) {
@@ -53,7 +55,7 @@ fn check(book: usize, table: usize, stamp: &[u8], space: usize) -> u8
 
 fn take_open(book: &[u8], state: State, session: usize, octets: &[u8], space: &mut [u8]) -> Taken
     requires { ⌜ (length (now book) ≡ bookSize) × ((session < sessionCount) × (spaceNeeded ≤ length (now space))) ⌝ }
-    ensures { λ r. ⌜ ((stamp table : List ℕ) → takes r table (now (space .exit)) ≡ octetsOn centre (now (book .entry)) (world state table) session (record { octets = now (octets .entry); stamp = stamp; space = now (space .entry) }) Open) ⌝ }
+    ensures { λ r. ⌜ ((stamp table : List ℕ) → takes r table (now (space .exit)) ≡ onEntry centre (now (book .entry)) (world state table) session (record { octets = now (octets .entry); stamp = stamp; space = now (space .entry) }) Open) ⌝ }
 {
     let fronted = open::on_open(book, octets, space);
     let entry = fronted.entry;
@@ -92,22 +94,22 @@ fn take_bound(
 ) -> Taken
     requires { ⌜ ((length (now book) ≡ bookSize) × (length (now table) ≡ tableSize)) × ((session < sessionCount) × (isTransmitter entry ≡ transmitter)) ⌝ }
     requires { ⌜ (length (now stamp) ≡ 16) × (spaceNeeded ≤ length (now space)) ⌝ }
-    ensures { λ r. ⌜ takes r (now (table .exit)) (now (space .exit)) ≡ octetsOf centre (now (book .entry)) (world state (now (table .entry))) session (record { octets = now (octets .entry); stamp = now (stamp .entry); space = now (space .entry) }) entry a ⌝ }
+    ensures { λ r. ⌜ takes r (now (table .exit)) (now (space .exit)) ≡ onAccount centre (now (book .entry)) (world state (now (table .entry))) session (record { octets = now (octets .entry); stamp = now (stamp .entry); space = now (space .entry) }) entry a ⌝ }
 {
-    if 8 <= a {
+    let account = a as usize;
+    if layout::ACCOUNTS <= account {
         return refuse(number::ACCOUNT_ILL_FORMED, state);
     }
-    let account = a as usize;
     let record = records::book::record_of(book, account);
     let last = state.last(account);
-    let at = 4096 * account;
+    let at = layout::PART_SIZE * account;
     let acted = bound::on_bound(
         transmitter,
         record,
         octets,
         stamp,
         space,
-        &mut table[at..at + 4096],
+        &mut table[at..at + layout::PART_SIZE],
         last,
     );
     let kept = settle(state, session, entry, acted.ends);
@@ -130,7 +132,7 @@ pub fn take(
     stamp: &[u8],
     space: &mut [u8],
 ) -> Taken
-    ensures { λ r. ⌜ takes r (now (table .exit)) (now (space .exit)) ≡ step (now (book .entry)) (world state (now (table .entry))) (Step.octets session (record { octets = now (octets .entry); stamp = now (stamp .entry); space = now (space .entry) })) ⌝ }
+    ensures { λ r. ⌜ takes r (now (table .exit)) (now (space .exit)) ≡ step (now (book .entry)) (world state (now (table .entry))) (Step.on session (record { octets = now (octets .entry); stamp = now (stamp .entry); space = now (space .entry) })) ⌝ }
 {
     if session::SESSIONS <= session {
         return refuse(number::NO_SESSION, state);
@@ -141,7 +143,7 @@ pub fn take(
     }
     let entry = state.entry(session);
     match entry {
-        Entry::Closed => refuse(number::NOT_OPEN, state),
+        Entry::Closed => refuse(number::UNFIT_SESSION, state),
         Entry::Open => take_open(book, state, session, octets, space),
         Entry::Transmitter(a) => take_bound(
             book,
@@ -167,6 +169,6 @@ pub fn take(
             stamp,
             space,
         ),
-        Entry::Ended => refuse(number::NOT_OPEN, state),
+        Entry::Ended => refuse(number::UNFIT_SESSION, state),
     }
 }

@@ -5,6 +5,7 @@ use lib.ListN.{length}
 use Rattle.octets.specs.Choice.{if_then_else_}
 use Rattle.octets.specs.Stretch.{patch, padded, zeros}
 use Rattle.octets.specs.Number.{octets4}
+use Rattle.forms.specs.Text.{longestText}
 use Rattle.changes.specs.declared.Fields.{Fields}
 use Rattle.changes.specs.declared.Correction.{Correction}
 
@@ -31,7 +32,7 @@ finished state error stamp r = patch (patch r 0 (state ∷ [])) 233 (stamp ++ (e
 
 -- a new text, length and default id
 unfoldable pub retexted : ℕ → List ℕ → List ℕ → List ℕ
-retexted default text r = patch r 91 (default ∷ length text ∷ padded 140 text)
+retexted default text r = patch r 91 (default ∷ length text ∷ padded longestText text)
 
 -- a time that is given takes the place of the stored one
 abbrev pub retimed : ℕ → List ℕ → List ℕ → List ℕ

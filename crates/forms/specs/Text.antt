@@ -7,6 +7,7 @@ use lib.ListN.{length, drop}
 use lib.Dec.{ltb, leb, eqb}
 use Rattle.octets.specs.Choice.{if_then_else_}
 use Rattle.octets.specs.Stretch.{every}
+use Rattle.octets.specs.Lent.{Lent, lentFrom}
 use Rattle.octets.specs.Number.{onto}
 use Rattle.forms.specs.Class.{within, inClass, lead}
 use Rattle.forms.specs.declared.class.Class.the-variants.{Ascii, Space, Decimal, Hexadecimal}
@@ -14,6 +15,10 @@ use Rattle.forms.specs.declared.text.Form.{Form}
 use Rattle.forms.specs.declared.text.Form.the-variants.{Digits, Address, AddressOrNone, MessageIdOrNone}
 use Rattle.forms.specs.declared.text.MessageId.{MessageId}
 use Rattle.forms.specs.declared.text.MessageId.the-variants.{Empty, Number}
+
+-- a short message has at most 140 octets
+abbrev pub longestText : ℕ
+longestText = 140
 
 abbrev pub given : List ℕ → Bool
 given t = ltb 0 (length t)
@@ -27,6 +32,10 @@ givenAll p t = given t && every p t
 
 unfoldable pub afterSpaces : List ℕ → List ℕ
 afterSpaces t = drop (lead (inClass Space) t) t
+
+-- the same where it stands
+abbrev pub afterSpacesPart : Lent → Lent
+afterSpacesPart t = lentFrom (lead (inClass Space) (t .octets)) t
 
 -- leading spaces and then at least one decimal digit
 abbrev pub isAddress : List ℕ → Bool

@@ -7,6 +7,9 @@ use lib.Dec.{eqb}
 use Rattle.octets.specs.Choice.{if_then_else_}
 use Rattle.forms.specs.Class.{within, decimal}
 
+abbrev pub timeLength : ℕ
+timeLength = 16
+
 -- two decimal digits, a number from low to high
 unfoldable pub twoDigits : ℕ → ℕ → ℕ → ℕ → Bool
 twoDigits low high a b = if decimal a && decimal b then within low high ((a - 48) * 10 + (b - 48)) else false
@@ -18,7 +21,7 @@ signed p = eqb p 43 || eqb p 45
 -- month 01-12, day 01-31, hour 00-23, minute and second 00-59, tenths a digit, nn 00-48, p "+" or "-"
 unfoldable pub isTime : List ℕ → Bool
 isTime t =
-    if eqb (length t) 16
+    if eqb (length t) timeLength
     then (twoDigits 0 99 (getD t 0 0) (getD t 1 0)
     && twoDigits 1 12 (getD t 2 0) (getD t 3 0)
     && twoDigits 1 31 (getD t 4 0) (getD t 5 0)

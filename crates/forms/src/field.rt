@@ -4,11 +4,15 @@ use crate::class::Class;
 use crate::text;
 use crate::text::Form;
 ghost use mathlib.Core.Path.{_≡_};
-ghost use Rattle.forms.specs.Field.{textOf, isField};
+ghost use Rattle.octets.specs.Lent.{lent};
+ghost use Rattle.forms.specs.Field.{textPart, isField};
+
+// An address as it is kept: type of number, numbering plan, and its characters in 20 octets.
+pub const ADDRESS_SIZE: usize = 22;
 
 // The octets up to the first zero.
 pub fn text_of(field: &[u8]) -> &[u8]
-    ensures { λ r. ⌜ now r ≡ textOf (now (field .entry)) ⌝ }
+    ensures { λ r. ⌜ lent r ≡ textPart (lent (field .entry)) ⌝ }
 {
     let n = class::lead_of(field, Class::NotNul);
     octets::stretch::first(field, n)

@@ -4,8 +4,12 @@ use crate::class::Class;
 ghost use mathlib.Core.Path.{_≡_};
 ghost use Prim.Native.Nat.{_≤_, _<_};
 ghost use lib.ListN.{length};
+ghost use Rattle.octets.specs.Lent.{lent};
 ghost use Rattle.forms.specs.Class.{inClass};
-ghost use Rattle.forms.specs.Text.{afterSpaces, givenAll, formed, nibble, hexValue, messageId};
+ghost use Rattle.forms.specs.Text.{afterSpacesPart, givenAll, formed, nibble, hexValue, messageId};
+
+// The longest short message.
+pub const LONGEST_TEXT: u8 = 140;
 
 pub enum Form {
     Ascii,
@@ -17,7 +21,7 @@ pub enum Form {
 
 // The text without its leading spaces.
 fn after_spaces(text: &[u8]) -> &[u8]
-    ensures { λ r. ⌜ now r ≡ afterSpaces (now (text .entry)) ⌝ }
+    ensures { λ r. ⌜ lent r ≡ afterSpacesPart (lent (text .entry)) ⌝ }
 {
     let n = class::lead_of(text, Class::Space);
     octets::stretch::from(text, n)

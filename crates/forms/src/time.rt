@@ -4,6 +4,8 @@ ghost use mathlib.Core.Path.{_≡_};
 ghost use Prim.Native.Nat.{_<_};
 ghost use Rattle.forms.specs.Time.{twoDigits, isTime, sentTime, storedTime};
 
+pub const LENGTH: usize = 16;
+
 // Two decimal digits, a number from `low` to `high`.
 fn is_two(a: u8, b: u8, low: u8, high: u8) -> bool
     ensures { λ r. ⌜ r ≡ twoDigits low high a b ⌝ }
@@ -19,7 +21,7 @@ fn is_two(a: u8, b: u8, low: u8, high: u8) -> bool
 fn is_time(t: &[u8]) -> bool
     ensures { λ r. ⌜ r ≡ isTime (now (t .entry)) ⌝ }
 {
-    if t.len() != 16 {
+    if t.len() != LENGTH {
         return false;
     }
     let sign = t[15];

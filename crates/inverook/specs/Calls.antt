@@ -1,15 +1,15 @@
 -- What a call from C gives, beside what a step of the centre gives.
-use Prim.Native.Nat.{ℕ, _+_, _*_}
+use Prim.Native.Nat.{ℕ}
 use mathlib.Core.List.{List}
-use lib.Dec.{eqb}
+use lib.Dec.{ltb}
+use lib.ListN.{length}
 use Rattle.octets.specs.Choice.{if_then_else_}
-use Rattle.records.specs.Layout.{recordSize}
-use Rattle.store.specs.Search.{nextPlace}
-use Rattle.store.specs.declared.places.Found.{Found}
-use Rattle.store.specs.declared.places.Found.the-variants.{At, Nowhere}
-use Rattle.isolation.specs.Platform.{Ran, partSize, tableSize, partOf}
+use Rattle.octets.specs.Stretch.{patch}
+use Rattle.isolation.specs.Platform.{Ran, tableSize}
+use Rattle.answers.specs.Reply.{Written, wrote}
 use Rattle.answers.specs.Answer.{Answer, numbered}
 use Rattle.answers.specs.Answer as A
+use Rattle.centre.specs.Pick.{startOf}
 use Rattle.inverook.specs.Flat.{flatOf}
 use Rattle.inverook.specs.declared.flat.InverookState.{InverookState}
 use Rattle.inverook.specs.declared.InverookMoved.{InverookMoved}
@@ -31,12 +31,14 @@ moved r table = record { answer = numbered (r .number); state = r .state; table 
 abbrev pub taken : InverookTaken → List ℕ → List ℕ → Given
 taken r table space = record { answer = A.taken (r .number) (r .consumed) (r .written) space; state = r .state; table = table }
 
--- ---- where the picked record starts: the place that the centre's pick finds, or 32,768 where the pick's number isn't 0
+-- ---- a pick
 
-abbrev pub startOf : Found → ℕ → ℕ
-startOf (At k) account = partSize * account + recordSize * k
-startOf Nowhere account = tableSize
+-- where the picked record starts; 32,768, one past the table's last octet, where none is picked
+abbrev pub pickedAt : ℕ → Answer → ℕ
+pickedAt account (A.numbered n) = tableSize
+pickedAt account (A.taken n consumed written space) = tableSize
+pickedAt account (A.picked k r) = startOf account k
 
-unfoldable pub pickedAt : ℕ → ℕ → List ℕ → ℕ
-pickedAt number account table =
-    if eqb number 0 then startOf (nextPlace (partOf account table)) account else tableSize
+-- the picked record copied to the front of a lent space, where it fits there, and how many octets were copied
+unfoldable pub copiedTo : List ℕ → List ℕ → Written
+copiedTo octets space = if ltb (length space) (length octets) then wrote 0 space else wrote (length octets) (patch space 0 octets)

@@ -32,25 +32,25 @@ stateOf flat = record { sessions = map (sessionAt flat) sessions; lasts = flat .
 
 -- ---- to numbers: an account is 0 unless bound
 
-abbrev pub kindOf : Entry → ℕ
-kindOf Closed = 0
-kindOf Open = 1
-kindOf (Transmitter a) = 2
-kindOf (Receiver a) = 3
-kindOf Ended = 4
+abbrev pub entryKind : Entry → ℕ
+entryKind Closed = 0
+entryKind Open = 1
+entryKind (Transmitter a) = 2
+entryKind (Receiver a) = 3
+entryKind Ended = 4
 
-abbrev pub accountOf : Entry → ℕ
-accountOf Closed = 0
-accountOf Open = 0
-accountOf (Transmitter a) = a
-accountOf (Receiver a) = a
-accountOf Ended = 0
+abbrev pub entryAccount : Entry → ℕ
+entryAccount Closed = 0
+entryAccount Open = 0
+entryAccount (Transmitter a) = a
+entryAccount (Receiver a) = a
+entryAccount Ended = 0
 
 unfoldable pub kindAt : State → ℕ → ℕ
-kindAt st i = kindOf (entryAt st i)
+kindAt st i = entryKind (entryAt st i)
 
 unfoldable pub accountAt : State → ℕ → ℕ
-accountAt st i = accountOf (entryAt st i)
+accountAt st i = entryAccount (entryAt st i)
 
 unfoldable pub flatOf : State → InverookState
 flatOf st = record { kinds = map (kindAt st) sessions; accounts = map (accountAt st) sessions; lasts = st .lasts }

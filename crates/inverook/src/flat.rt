@@ -7,7 +7,7 @@ ghost use mathlib.Core.Path.{_≡_};
 ghost use mathlib.Core.List.{map};
 ghost use Prim.Native.Nat.{_<_};
 ghost use Rattle.session.specs.State.{sessionCount};
-ghost use Rattle.inverook.specs.Flat.{entryOf, sessionAt, stateOf, kindOf, accountOf, kindAt, accountAt, flatOf, sessions};
+ghost use Rattle.inverook.specs.Flat.{entryOf, sessionAt, stateOf, entryKind, entryAccount, kindAt, accountAt, flatOf, sessions};
 
 // inverook_state of include/inverook.h.
 #[repr(C)]
@@ -63,7 +63,7 @@ pub fn state_of(flat: InverookState) -> State
 }
 
 fn kind_of(entry: Entry) -> u8
-    ensures { λ r. ⌜ r ≡ kindOf entry ⌝ }
+    ensures { λ r. ⌜ r ≡ entryKind entry ⌝ }
 {
     match entry {
         Entry::Closed => 0,
@@ -75,7 +75,7 @@ fn kind_of(entry: Entry) -> u8
 }
 
 fn account_of(entry: Entry) -> u8
-    ensures { λ r. ⌜ r ≡ accountOf entry ⌝ }
+    ensures { λ r. ⌜ r ≡ entryAccount entry ⌝ }
 {
     match entry {
         Entry::Closed => 0,

@@ -1,16 +1,19 @@
 // The centre for C: include/inverook.h tells a caller what each function is given and gives. A slice is passed as pointer and length.
 mod flat;
 
+use centre::operations;
+use centre::operations::Placed;
 use flat::InverookState;
-use store::places::Found;
+use records::layout;
 ghost use mathlib.Core.Path.{_≡_};
 ghost use Prim.Native.Nat.{ℕ};
 ghost use mathlib.Core.List.{List};
 ghost use Rattle.isolation.specs.Platform.{Step};
 ghost use Rattle.centre.specs.Centre.{step, world, reports};
-ghost use Rattle.answers.specs.Answer.{numberOf};
+ghost use Rattle.answers.specs.Reply.{wrote};
+ghost use Rattle.answers.specs.Answer.{Question, numberOf, pickedRecord};
 ghost use Rattle.inverook.specs.Flat.{stateOf};
-ghost use Rattle.inverook.specs.Calls.{moved, taken, flatly, pickedAt};
+ghost use Rattle.inverook.specs.Calls.{moved, taken, flatly, pickedAt, copiedTo};
 
 // inverook_moved of the header.
 #[repr(C)]
@@ -66,7 +69,7 @@ pub extern "C" fn inverook_take(
     stamp: &[u8],
     space: &mut [u8],
 ) -> InverookTaken
-    ensures { λ r. ⌜ taken r (now (table .exit)) (now (space .exit)) ≡ flatly (step (now (book .entry)) (world (stateOf state) (now (table .entry))) (Step.octets session (record { octets = now (octets .entry); stamp = now (stamp .entry); space = now (space .entry) }))) ⌝ }
+    ensures { λ r. ⌜ taken r (now (table .exit)) (now (space .exit)) ≡ flatly (step (now (book .entry)) (world (stateOf state) (now (table .entry))) (Step.on session (record { octets = now (octets .entry); stamp = now (stamp .entry); space = now (space .entry) }))) ⌝ }
 {
     let held = flat::state_of(state);
     let took = centre::take::take(book, table, held, session, octets, stamp, space);
@@ -91,10 +94,10 @@ pub extern "C" fn inverook_outcome(
     outcome: u8,
     error: u8,
 ) -> u8
-    ensures { λ r. ⌜ reports r (stateOf state) (now (table .exit)) ≡ step (now (book .entry)) (world (stateOf state) (now (table .entry))) (Step.outcome account (record { stamp = now (stamp .entry); id = id; state = outcome; error = error })) ⌝ }
+    ensures { λ r. ⌜ reports r (stateOf state) (now (table .exit)) ≡ step (now (book .entry)) (world (stateOf state) (now (table .entry))) (Step.of account (Question.outcome (record { stamp = now (stamp .entry); id = id; state = outcome; error = error }))) ⌝ }
 {
     let held = flat::state_of(state);
-    centre::operations::outcome(book, table, held, stamp, account, id, outcome, error)
+    operations::outcome(book, table, held, stamp, account, id, outcome, error)
 }
 
 #[no_mangle]
@@ -104,14 +107,14 @@ pub extern "C" fn inverook_pick_number(
     state: InverookState,
     account: usize,
 ) -> u8
-    ensures { λ r. ⌜ r ≡ numberOf (step (now (book .entry)) (world (stateOf state) (now (table .entry))) (Step.picks account) .answer) ⌝ }
+    ensures { λ r. ⌜ r ≡ numberOf (step (now (book .entry)) (world (stateOf state) (now (table .entry))) (Step.of account Question.pick) .answer) ⌝ }
 {
     let held = flat::state_of(state);
-    centre::operations::pick_number(book, table, held, account)
+    operations::pick_number(book, table, held, account)
 }
 
 // Where no record is picked: one past the table's last octet.
-const NOWHERE: usize = 32768;
+const NOWHERE: usize = layout::TABLE_SIZE;
 
 // A C caller cannot be handed a part of its own table: it gets the octet at which that part starts.
 #[no_mangle]
@@ -121,17 +124,32 @@ pub extern "C" fn inverook_pick_at(
     state: InverookState,
     account: usize,
 ) -> usize
-    ensures { λ r. ⌜ r ≡ pickedAt (numberOf (step (now (book .entry)) (world (stateOf state) (now (table .entry))) (Step.picks account) .answer)) account (now (table .entry)) ⌝ }
+    ensures { λ r. ⌜ r ≡ pickedAt account (step (now (book .entry)) (world (stateOf state) (now (table .entry))) (Step.of account Question.pick) .answer) ⌝ }
 {
     let held = flat::state_of(state);
-    let number = centre::operations::pick_number(book, table, held, account);
-    if number != 0 {
-        return NOWHERE;
+    let placed = operations::locate(book, table, held, account);
+    match placed {
+        Placed::Refused(_) => NOWHERE,
+        Placed::Place(k) => operations::start_of(account, k),
     }
-    let at = 4096 * account;
-    let found = store::search::find_next(&table[at..at + 4096]);
-    match found {
-        Found::At(k) => at + 256 * k,
-        Found::Nowhere => NOWHERE,
+}
+
+// Or the record's octets, for a caller that keeps its table elsewhere: as many as were copied, none where the space is too short.
+#[no_mangle]
+pub extern "C" fn inverook_pick_record(
+    book: &[u8],
+    table: &[u8],
+    state: InverookState,
+    account: usize,
+    space: &mut [u8],
+) -> usize
+    ensures { λ r. ⌜ wrote r (now (space .exit)) ≡ copiedTo (pickedRecord (step (now (book .entry)) (world (stateOf state) (now (table .entry))) (Step.of account Question.pick) .answer)) (now (space .entry)) ⌝ }
+{
+    let held = flat::state_of(state);
+    let picked = operations::pick(book, table, held, account);
+    if space.len() < picked.len() {
+        return 0;
     }
+    octets::stretch::put(space, 0, picked);
+    picked.len()
 }

@@ -7,40 +7,39 @@ use Prim.Native.Nat.{ℕ, _+_}
 use Rattle.octets.specs.Choice.{if_then_else_}
 use Rattle.session.specs.State.{opened, closed}
 use Rattle.session.specs.declared.Entry.the-variants.{Transmitter}
-use Rattle.isolation.specs.Platform.{fresh, Step, opens, closes, octets, outcome, Machine, step}
+use Rattle.isolation.specs.Platform.{fresh, Step, opens, closes, on, of, Machine, step}
 use Rattle.isolation.specs.History.{Kept, concerns, binds, answersOf, remaining}
 use Rattle.isolation.specs.Isolation.{Keeps}
 
--- octets on an open session bind it to the account that they name, and are answered 50; an account answers with its next id
+-- what is asked on an open session binds it to the account that it names, and is answered 50; an account answers with its next id
 abbrev counting : Machine
 counting =
     record {
       Book = Unit {0};
-      T = ℕ;
-      O = ℕ;
+      X = ℕ;
+      Q = ℕ;
       R = ℕ;
       numbered = λ n. n;
-      refusedOctets = λ n x. n;
-      refusedPick = λ n. n;
-      earlyOctets = λ b size x. 0;
-      earlyOutcome = λ b size x. 0;
-      earlyPick = λ b size. 0;
+      refusedOn = λ n x. n;
+      refusedOf = λ n q. n;
+      earlyOn = λ b size x. 0;
+      earlyOf = λ b size q. 0;
       front = λ b x. record { answer = 50; after = Transmitter x };
-      act = λ b a q p last. record { answer = last + 1; part = p; last = last + 1; ends = false };
+      act = λ b a q o. record { answer = o .last + 1; own = record { part = o .part; last = o .last + 1 }; ends = false };
     }
 
 counting-keeps : Keeps counting
-counting-keeps b a q p last sized = sized
+counting-keeps b a q o sized = sized
 
 abbrev history : List (Step ℕ ℕ)
 history =
     opens 0
     ∷ opens 1
-    ∷ octets 0 0
-    ∷ octets 1 1
-    ∷ octets 0 7
-    ∷ octets 1 8
-    ∷ outcome 1 9
+    ∷ on 0 0
+    ∷ on 1 1
+    ∷ on 0 7
+    ∷ on 1 8
+    ∷ of 1 9
     ∷ closes 0
     ∷ closes 1
     ∷ []
@@ -51,11 +50,11 @@ kept st = record { step = st; binds = false }
 abbrev keptAsBind : Step ℕ ℕ → Kept ℕ ℕ
 keptAsBind st = record { step = st; binds = true }
 
-remaining-0 : remaining counting 0 tt fresh history ≡ keptAsBind (octets 0 0) ∷ kept (octets 0 7) ∷ kept (closes 0) ∷ []
+remaining-0 : remaining counting 0 tt fresh history ≡ keptAsBind (on 0 0) ∷ kept (on 0 7) ∷ kept (closes 0) ∷ []
 unfolding concerns binds step opened closed if_then_else_ fresh
 remaining-0 = refl
 
-remaining-1 : remaining counting 1 tt fresh history ≡ keptAsBind (octets 1 1) ∷ kept (octets 1 8) ∷ kept (outcome 1 9) ∷ kept (closes 1) ∷ []
+remaining-1 : remaining counting 1 tt fresh history ≡ keptAsBind (on 1 1) ∷ kept (on 1 8) ∷ kept (of 1 9) ∷ kept (closes 1) ∷ []
 unfolding concerns binds step opened closed if_then_else_ fresh
 remaining-1 = refl
 

@@ -11,7 +11,7 @@ use Rattle.session.specs.State.{sessionCount, accountCount, entryAt, opened, op
 use Rattle.session.specs.declared.Entry.{Entry}
 use Rattle.session.specs.declared.Entry.the-variants.{Closed, Open, Transmitter, Receiver, Ended}
 use Rattle.session.specs.declared.Moved.{Moved}
-use Rattle.isolation.specs.Platform.{partSize, tableSize, World, fresh, Step, opens, closes, octets, outcome, picks, Request, taken, reported, picked, Effect, Ran, Machine, ask, put, putEntry, move, octetsOf, octetsOn, octetsAfter, accountAfter, step}
+use Rattle.isolation.specs.Platform.{partSize, tableSize, World, fresh, Own, putOwn, putEntry, Step, opens, closes, on, of, Request, Ran, Machine, ask, move, onAccount, onEntry, onAfter, ofAfter, step}
 use Rattle.isolation.specs.History.{Kept, reopened, anew, aloneStep}
 use Rattle.isolation.specs.Isolation.{Keeps}
 
@@ -24,28 +24,28 @@ pub sized-fresh : Sized fresh
 unfolding fresh
 sized-fresh = record { sessions = refl; lasts = refl; table = length-replicate {A = ℕ} tableSize 0 }
 
+pub sized-entry : (w : World) → Sized w → (s : ℕ) (e : Entry) → Sized (putEntry w s e)
+sized-entry w z s e =
+    record { sessions = length-set (w .state .sessions) s (record { entry = e }) ∙ z .sessions; lasts = z .lasts; table = z .table }
+
+sized-put : (w : World) → Sized w → (a : ℕ) (o : Own) → Sized (putOwn w a o)
+sized-put w z a o =
+    record {
+      sessions = z .sessions;
+      lasts = length-set (w .state .lasts) a (o .last) ∙ z .lasts;
+      table = patch-length (w .table) (partSize * a) (o .part) ∙ z .table;
+    }
+
 module _ (m : Machine) where
-  open Machine m using (Book, T, O, R, numbered, refusedPick, earlyOctets, earlyOutcome, earlyPick)
-
-  pub sized-entry : (w : World) → Sized w → (s : ℕ) (e : Entry) → Sized (putEntry m w s e)
-  sized-entry w z s e =
-      record { sessions = length-set (w .state .sessions) s (record { entry = e }) ∙ z .sessions; lasts = z .lasts; table = z .table }
-
-  pub sized-put : (w : World) → Sized w → (a : ℕ) (r : Effect R) → Sized (put m w a r .world)
-  sized-put w z a r =
-      record {
-        sessions = z .sessions;
-        lasts = length-set (w .state .lasts) a (r .last) ∙ z .lasts;
-        table = patch-length (w .table) (partSize * a) (r .part) ∙ z .table;
-      }
+  open Machine m using (Book, X, Q, R, earlyOn, earlyOf)
 
   abbrev SizedAfter : Ran R → Type 0
   SizedAfter r = Sized (r .world)
 
   module _ (b : Book) (w : World) (z : Sized w) where
     -- what an account gives back in place of its part has the part's size
-    pub asked-length : Keeps m → (a : ℕ) (q : Request T O) → a < accountCount → length (ask m b w a q .part) ≡ partSize
-    asked-length keeps a q la = keeps b a q _ _ (simp (length-take, length-drop) (omega (arith, z .table)))
+    pub asked-length : Keeps m → (a : ℕ) (q : Request X Q) → a < accountCount → length (ask m b w a q .own .part) ≡ partSize
+    asked-length keeps a q la = keeps b a q _ (simp (length-take, length-drop) (omega (arith, z .table)))
 
     sized-opened : (s : ℕ) (e : Entry) → SizedAfter (move m w (openedFrom (w .state) s e))
     sized-opened s Closed = sized-entry w z s Open
@@ -54,50 +54,46 @@ module _ (m : Machine) where
     sized-opened s (Receiver a) = z
     sized-opened s Ended = z
 
-    sized-octetsOf : (s : ℕ) (x : T) (e : Entry) (a : ℕ) → SizedAfter (octetsOf m b w s x e a)
-    sized-octetsOf s x e a =
-        if-cases SizedAfter (ltb a accountCount) _ _
-        (λ h. sized-put (putEntry m w s _) (sized-entry w z s _) a (ask m b w a (taken e x)))
-        (λ h. z)
+    sized-onAccount : (s : ℕ) (x : X) (e : Entry) (a : ℕ) → SizedAfter (onAccount m b w s x e a)
+    sized-onAccount s x e a =
+        if-cases SizedAfter (ltb a accountCount) _ _ (λ h. sized-put (putEntry w s _) (sized-entry w z s _) a _) (λ h. z)
 
-    sized-octetsOn : (s : ℕ) (x : T) (e : Entry) → SizedAfter (octetsOn m b w s x e)
-    sized-octetsOn s x Closed = z
-    sized-octetsOn s x Open = sized-entry w z s _
-    sized-octetsOn s x (Transmitter a) = sized-octetsOf s x (Transmitter a) a
-    sized-octetsOn s x (Receiver a) = sized-octetsOf s x (Receiver a) a
-    sized-octetsOn s x Ended = z
+    sized-onEntry : (s : ℕ) (x : X) (e : Entry) → SizedAfter (onEntry m b w s x e)
+    sized-onEntry s x Closed = z
+    sized-onEntry s x Open = sized-entry w z s _
+    sized-onEntry s x (Transmitter a) = sized-onAccount s x (Transmitter a) a
+    sized-onEntry s x (Receiver a) = sized-onAccount s x (Receiver a) a
+    sized-onEntry s x Ended = z
 
-    sized-octetsAfter : (n s : ℕ) (x : T) → SizedAfter (octetsAfter m n b w s x)
-    sized-octetsAfter n s x = if-cases SizedAfter (eqb n 0) _ _ (λ h. sized-octetsOn s x (entryAt (w .state) s)) (λ h. z)
+    sized-onAfter : (n s : ℕ) (x : X) → SizedAfter (onAfter m n b w s x)
+    sized-onAfter n s x = if-cases SizedAfter (eqb n 0) _ _ (λ h. sized-onEntry s x (entryAt (w .state) s)) (λ h. z)
 
-    sized-accountAfter : (n a : ℕ) (q : Request T O) (refuse : ℕ → R) → SizedAfter (accountAfter m n b w a q refuse)
-    sized-accountAfter n a q refuse =
+    sized-ofAfter : (n a : ℕ) (q : Q) → SizedAfter (ofAfter m n b w a q)
+    sized-ofAfter n a q =
         if-cases SizedAfter (eqb n 0) _ _
-        (λ h. if-cases SizedAfter (ltb a accountCount) _ _ (λ k. sized-put w z a (ask m b w a q)) (λ k. z))
+        (λ h. if-cases SizedAfter (ltb a accountCount) _ _ (λ k. sized-put w z a _) (λ k. z))
         (λ h. z)
 
-    pub sized-step : (st : Step T O) → Sized (step m b w st .world)
+    pub sized-step : (st : Step X Q) → Sized (step m b w st .world)
     unfolding step opened closed
     sized-step (opens s) =
         if-cases (λ (r : Moved). SizedAfter (move m w r)) (leb sessionCount s) _ _ (λ h. z) (λ h. sized-opened s (entryAt (w .state) s))
     sized-step (closes s) =
         if-cases (λ (r : Moved). SizedAfter (move m w r)) (leb sessionCount s) _ _ (λ h. z) (λ h. sized-entry w z s Closed)
-    sized-step (octets s x) = if-cases SizedAfter (leb sessionCount s) _ _ (λ h. z) (λ h. sized-octetsAfter (earlyOctets b (length (w .table)) x) s x)
-    sized-step (outcome a x) = sized-accountAfter (earlyOutcome b (length (w .table)) x) a (reported x) numbered
-    sized-step (picks a) = sized-accountAfter (earlyPick b (length (w .table))) a picked refusedPick
+    sized-step (on s x) = if-cases SizedAfter (leb sessionCount s) _ _ (λ h. z) (λ h. sized-onAfter (earlyOn b (length (w .table)) x) s x)
+    sized-step (of a q) = sized-ofAfter (earlyOf b (length (w .table)) q) a q
 
   -- ---- the run alone
 
   pub sized-reopened : (b : Book) (w : World) → Sized w → (s : ℕ) → Sized (reopened m b w s)
   sized-reopened b w z s = sized-step b (step m b w (closes s) .world) (sized-step b w z (closes s)) (opens s)
 
-  sized-anew : (b : Book) (w : World) → Sized w → (st : Step T O) → Sized (anew m b w st)
+  sized-anew : (b : Book) (w : World) → Sized w → (st : Step X Q) → Sized (anew m b w st)
   sized-anew b w z (opens s) = sized-reopened b w z s
   sized-anew b w z (closes s) = sized-reopened b w z s
-  sized-anew b w z (octets s x) = sized-reopened b w z s
-  sized-anew b w z (outcome a x) = z
-  sized-anew b w z (picks a) = z
+  sized-anew b w z (on s x) = sized-reopened b w z s
+  sized-anew b w z (of a q) = z
 
-  pub sized-alone : (b : Book) (w : World) → Sized w → (k : Kept T O) → Sized (aloneStep m b w k .world)
+  pub sized-alone : (b : Book) (w : World) → Sized w → (k : Kept X Q) → Sized (aloneStep m b w k .world)
   sized-alone b w z k =
       sized-step b _ (if-cases Sized (k .binds) (anew m b w (k .step)) w (λ t. sized-anew b w z (k .step)) (λ t. z)) (k .step)

@@ -12,28 +12,28 @@ use Rattle.isolation.proofs.Frame.{own, frame}
 use Rattle.isolation.proofs.Twin.{if-both, mark, twin}
 
 -- the marks follow from the steps: run alone, a step binds its session where the step is not A's own yet
-marked : (m : Machine) → ℕ → m .Book → World → List (Step (m .T) (m .O)) → List (Kept (m .T) (m .O))
+marked : (m : Machine) → ℕ → m .Book → World → List (Step (m .X) (m .Q)) → List (Kept (m .X) (m .Q))
 marked m A b v [] = []
 marked m A b v (st ∷ sts) =
-    let k : Kept (m .T) (m .O) = record { step = st; binds = not (own m A v st) } in
+    let k : Kept (m .X) (m .Q) = record { step = st; binds = not (own m A v st) } in
     k ∷ marked m A b (aloneStep m b v k .world) sts
 
 module _ (m : Machine) (keeps : Keeps m) (b : m .Book) (A : ℕ) where
-  open Machine m using (T, O, R)
+  open Machine m using (X, Q, R)
 
   -- a full run that gave A the answers ls and ended in the world u, and the kept steps ks run alone from v
-  record Told (ls : List R) (u v : World) (ks : List (Kept T O)) : Type 0 where
+  record Told (ls : List R) (u v : World) (ks : List (Kept X Q)) : Type 0 where
     answers : ls ≡ answersAlone m b v ks
     world : view A u ≡ view A (afterAlone m b v ks)
     marks : ks ≡ marked m A b v (map stepOf ks)
 
   -- a step that remains, with its mark in the full run
-  abbrev keptStep : World → Step T O → Kept T O
+  abbrev keptStep : World → Step X Q → Kept X Q
   keptStep w st = record { step = st; binds = binds m A b w st }
 
   -- one more step in front of such a run, taken in w: it remains, and is run alone in v
-  told-kept : (st : Step T O) (w v : World) → Sized w → Sized v → view A w ≡ view A v → concerns m A b w st ≡ true
-      → (ls : List R) (u : World) (ks : List (Kept T O))
+  told-kept : (st : Step X Q) (w v : World) → Sized w → Sized v → view A w ≡ view A v → concerns m A b w st ≡ true
+      → (ls : List R) (u : World) (ks : List (Kept X Q))
       → Told ls u (aloneStep m b v (keptStep w st) .world) ks → Told (step m b w st .answer ∷ ls) u v (keptStep w st ∷ ks)
   unfolding marked
   told-kept st w v z y alike c ls u ks rest =
@@ -42,10 +42,10 @@ module _ (m : Machine) (keeps : Keeps m) (b : m .Book) (A : ℕ) where
       record {
         answers = ap₂ {C = List R} (λ r rs. r ∷ rs) (twin m keeps b A w v z y alike st c .answer) (rest .answers);
         world = rest .world;
-        marks = rw (← again) (ap (λ (js : List (Kept T O)). keptStep w st ∷ js) (rest .marks));
+        marks = rw (← again) (ap (λ (js : List (Kept X Q)). keptStep w st ∷ js) (rest .marks));
       }
 
-  told : (hs : List (Step T O)) (w v : World) → Sized w → Sized v → view A w ≡ view A v
+  told : (hs : List (Step X Q)) (w v : World) → Sized w → Sized v → view A w ≡ view A v
       → Told (answersOf m A b w hs) (after m b w hs) v (remaining m A b w hs)
   unfolding marked
   told [] w v z y alike = record { answers = refl; world = alike; marks = refl }
@@ -54,17 +54,17 @@ module _ (m : Machine) (keeps : Keeps m) (b : m .Book) (A : ℕ) where
       let z′ = sized-step m b w z st in
       let v′ = aloneStep m b v (keptStep w st) .world in
       let y′ = sized-alone m b v y (keptStep w st) in
-      if-both (λ (ls : List R) (ks : List (Kept T O)). Told ls (after m b w′ sts) v ks) (concerns m A b w st) _ _ _ _
+      if-both (λ (ls : List R) (ks : List (Kept X Q)). Told ls (after m b w′ sts) v ks) (concerns m A b w st) _ _ _ _
       (λ c. told-kept st w v z y alike c _ _ _ (told sts w′ v′ z′ y′ (twin m keeps b A w v z y alike st c .world)))
       (λ c. told sts w′ v z′ y (frame m b A w z keeps st c ∙ alike))
 
-  told-fresh : (hs : List (Step T O)) → Told (answersOf m A b fresh hs) (after m b fresh hs) fresh (remaining m A b fresh hs)
+  told-fresh : (hs : List (Step X Q)) → Told (answersOf m A b fresh hs) (after m b fresh hs) fresh (remaining m A b fresh hs)
   told-fresh hs = told hs fresh fresh sized-fresh sized-fresh refl
 
   -- what A sees is what Same compares
   same : {ls rs : List R} (u v : World) → ls ≡ rs → view A u ≡ view A v → Same A ls u rs v
   same u v answers world =
-      record { answers = answers; records = ap (λ (vw : View). vw .part) world; last = ap (λ (vw : View). vw .last) world }
+      record { answers = answers; records = ap (λ (vw : View). vw .own .part) world; last = ap (λ (vw : View). vw .own .last) world }
 
 -- a history shows A what its remaining steps show it, run alone
 pub alone : (m : Machine) → Keeps m → Alone m
@@ -78,4 +78,4 @@ isolated m keeps b A hs gs e =
     let kept : remaining m A b fresh hs ≡ remaining m A b fresh gs = t .marks ∙ ap (marked m A b fresh) e ∙ sym (u .marks) in
     same m keeps b A _ _
     (t .answers ∙ ap (answersAlone m b fresh) kept ∙ sym (u .answers))
-    (t .world ∙ ap (λ (ks : List (Kept (m .T) (m .O))). view A (afterAlone m b fresh ks)) kept ∙ sym (u .world))
+    (t .world ∙ ap (λ (ks : List (Kept (m .X) (m .Q))). view A (afterAlone m b fresh ks)) kept ∙ sym (u .world))

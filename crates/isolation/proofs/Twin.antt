@@ -12,11 +12,11 @@ use Rattle.session.specs.State.{sessionCount, accountCount, entryAt, opened, op
 use Rattle.session.specs.declared.Entry.{Entry}
 use Rattle.session.specs.declared.Entry.the-variants.{Closed, Open, Transmitter, Receiver, Ended}
 use Rattle.session.specs.declared.Moved.{Moved}
-use Rattle.isolation.specs.Platform.{partSize, tableSize, World, Step, opens, closes, octets, outcome, picks, Request, taken, reported, picked, Effect, Ran, Machine, unchanged, ask, put, putEntry, move, settle, octetsOf, octetsOn, octetsAfter, accountAfter, step}
+use Rattle.isolation.specs.Platform.{partSize, tableSize, World, Own, putEntry, Step, opens, closes, on, of, Request, onSession, ofAccount, Effect, Ran, Machine, unchanged, ask, put, move, settle, onAccount, onEntry, onAfter, ofAfter, step}
 use Rattle.isolation.specs.History.{boundTo, boundIn, names, concerns, binds, reopened, anew, aloneStep}
 use Rattle.isolation.specs.Isolation.{Keeps}
 use Rattle.isolation.proofs.Sizes.{Sized, sized-entry, asked-length, sized-reopened}
-use Rattle.isolation.proofs.Views.{View, view, shown, withSessions, withAccount, bound-same, boundIn-same, entry-same, entry-put, view-entry, view-hidden, view-own}
+use Rattle.isolation.proofs.Views.{View, view, shown, withSessions, withOwn, bound-same, boundIn-same, entry-same, entry-put, view-entry, view-hidden, view-own}
 use Rattle.isolation.proofs.Frame.{own, fronted, Foreign, leaves, fronts, foreign}
 
 -- one test that chooses in both runs
@@ -43,7 +43,7 @@ pub record Alike {R : Type 0} (A : ℕ) (r q : Ran R) : Type 0 where
   pub world : view A (r .world) ≡ view A (q .world)
 
 module _ (m : Machine) (keeps : Keeps m) (b : m .Book) (A : ℕ) where
-  open Machine m using (T, O, R, numbered, refusedOctets, refusedPick, earlyOctets, earlyOutcome, earlyPick, front, act)
+  open Machine m using (X, Q, R, numbered, refusedOn, refusedOf, earlyOn, earlyOf, front, act)
 
   -- ---- A's own step, taken in both worlds
 
@@ -51,26 +51,26 @@ module _ (m : Machine) (keeps : Keeps m) (b : m .Book) (A : ℕ) where
     own-unchanged : (r : R) → Alike A (unchanged m w r) (unchanged m v r)
     own-unchanged r = record { answer = refl; world = alike }
 
-    own-entry : (s : ℕ) (e : Entry) (r : R) → Alike A (unchanged m (putEntry m w s e) r) (unchanged m (putEntry m v s e) r)
+    own-entry : (s : ℕ) (e : Entry) (r : R) → Alike A (record { answer = r; world = putEntry w s e }) (record { answer = r; world = putEntry v s e })
     own-entry s e r =
         record {
           answer = refl;
           world =
-              view-entry m A w s e
+              view-entry A w s e
               ∙ ap (λ (vw : View). withSessions vw (set (vw .sessions) s (shown A e))) alike
-              ∙ sym (view-entry m A v s e);
+              ∙ sym (view-entry A v s e);
         }
 
-    own-put : Sized w → Sized v → (r : Effect R) → length (r .part) ≡ partSize → A < accountCount → Alike A (put m w A r) (put m v A r)
+    own-put : Sized w → Sized v → (r : Effect R) → length (r .own .part) ≡ partSize → A < accountCount → Alike A (put m w A r) (put m v A r)
     own-put z y r lp la =
         record {
           answer = refl;
-          world = view-own m A w z r lp la ∙ ap (λ (vw : View). withAccount vw (r .part) (r .last)) alike ∙ sym (view-own m A v y r lp la);
+          world = view-own A w z (r .own) lp la ∙ ap (λ (vw : View). withOwn vw (r .own)) alike ∙ sym (view-own A v y (r .own) lp la);
         }
 
     -- A's function is given the same, and so gives the same
-    ask-same : (q : Request T O) → ask m b w A q ≡ ask m b v A q
-    ask-same q = ap₂ (act b A q) (ap (λ (vw : View). vw .part) alike) (ap (λ (vw : View). vw .last) alike)
+    ask-same : (q : Request X Q) → ask m b w A q ≡ ask m b v A q
+    ask-same q = ap (λ (vw : View). act b A q (vw .own)) alike
 
   module _ (w v : World) (z : Sized w) (y : Sized v) (alike : view A w ≡ view A v) where
     own-opened : (s : ℕ) (e : Entry) → Alike A (move m w (openedFrom (w .state) s e)) (move m v (openedFrom (v .state) s e))
@@ -80,47 +80,47 @@ module _ (m : Machine) (keeps : Keeps m) (b : m .Book) (A : ℕ) where
     own-opened s (Receiver a) = own-unchanged w v alike (numbered 6)
     own-opened s Ended = own-unchanged w v alike (numbered 6)
 
-    own-ask : (q : Request T O) → ltb A accountCount ≡ true → Alike A (put m w A (ask m b w A q)) (put m v A (ask m b v A q))
+    own-ask : (q : Request X Q) → ltb A accountCount ≡ true → Alike A (put m w A (ask m b w A q)) (put m v A (ask m b v A q))
     own-ask q t =
         let la = ltb-true A accountCount t in
         let r = ask m b w A q in
         subst (λ (r′ : Effect R). Alike A (put m w A r) (put m v A r′)) (ask-same w v alike q)
         (own-put w v alike z y r (asked-length m b w z keeps A q la) la)
 
-    own-settle : (s : ℕ) (x : T) (e : Entry) → ltb A accountCount ≡ true
-        → Alike A (settle m w s e A (ask m b w A (taken e x))) (settle m v s e A (ask m b v A (taken e x)))
+    own-settle : (s : ℕ) (x : X) (e : Entry) → ltb A accountCount ≡ true
+        → Alike A (settle m w s e A (ask m b w A (onSession e x))) (settle m v s e A (ask m b v A (onSession e x)))
     own-settle s x e t =
         let la = ltb-true A accountCount t in
-        let r = ask m b w A (taken e x) in
+        let r = ask m b w A (onSession e x) in
         let d = if r .ends then Ended else e in
         let entries = own-entry w v alike s d (r .answer) .world in
-        let lp = asked-length m b w z keeps A (taken e x) la in
-        subst (λ (r′ : Effect R). Alike A (settle m w s e A r) (settle m v s e A r′)) (ask-same w v alike (taken e x))
-        (own-put (putEntry m w s d) (putEntry m v s d) entries (sized-entry m w z s d) (sized-entry m v y s d) r lp la)
+        let lp = asked-length m b w z keeps A (onSession e x) la in
+        subst (λ (r′ : Effect R). Alike A (settle m w s e A r) (settle m v s e A r′)) (ask-same w v alike (onSession e x))
+        (own-put (putEntry w s d) (putEntry v s d) entries (sized-entry w z s d) (sized-entry v y s d) r lp la)
 
-    own-octetsOf : (s : ℕ) (x : T) (e : Entry) → Alike A (octetsOf m b w s x e A) (octetsOf m b v s x e A)
-    own-octetsOf s x e = if-both (Alike A) (ltb A accountCount) _ _ _ _ (own-settle s x e) (λ t. own-unchanged w v alike (refusedOctets 9 x))
+    own-onAccount : (s : ℕ) (x : X) (e : Entry) → Alike A (onAccount m b w s x e A) (onAccount m b v s x e A)
+    own-onAccount s x e = if-both (Alike A) (ltb A accountCount) _ _ _ _ (own-settle s x e) (λ t. own-unchanged w v alike (refusedOn 9 x))
 
-    own-octetsOn : (s : ℕ) (x : T) (e : Entry) → boundTo A e ≡ true → Alike A (octetsOn m b w s x e) (octetsOn m b v s x e)
-    own-octetsOn s x Closed h = absurd (true≢false (sym h))
-    own-octetsOn s x Open h = absurd (true≢false (sym h))
-    own-octetsOn s x (Transmitter a) h = rw (eqb-true a A h) (own-octetsOf s x (Transmitter A))
-    own-octetsOn s x (Receiver a) h = rw (eqb-true a A h) (own-octetsOf s x (Receiver A))
-    own-octetsOn s x Ended h = absurd (true≢false (sym h))
+    own-onEntry : (s : ℕ) (x : X) (e : Entry) → boundTo A e ≡ true → Alike A (onEntry m b w s x e) (onEntry m b v s x e)
+    own-onEntry s x Closed h = absurd (true≢false (sym h))
+    own-onEntry s x Open h = absurd (true≢false (sym h))
+    own-onEntry s x (Transmitter a) h = rw (eqb-true a A h) (own-onAccount s x (Transmitter A))
+    own-onEntry s x (Receiver a) h = rw (eqb-true a A h) (own-onAccount s x (Receiver A))
+    own-onEntry s x Ended h = absurd (true≢false (sym h))
 
-    own-octetsAfter : (n s : ℕ) (x : T) → boundTo A (entryAt (w .state) s) ≡ true → Alike A (octetsAfter m n b w s x) (octetsAfter m n b v s x)
-    own-octetsAfter n s x h =
+    own-onAfter : (n s : ℕ) (x : X) → boundTo A (entryAt (w .state) s) ≡ true → Alike A (onAfter m n b w s x) (onAfter m n b v s x)
+    own-onAfter n s x h =
         if-both (Alike A) (eqb n 0) _ _ _ _
-        (λ t. rw (← (entry-same A w v alike s h)) (own-octetsOn s x (entryAt (w .state) s) h))
-        (λ t. own-unchanged w v alike (refusedOctets n x))
+        (λ t. rw (← (entry-same A w v alike s h)) (own-onEntry s x (entryAt (w .state) s) h))
+        (λ t. own-unchanged w v alike (refusedOn n x))
 
-    own-accountAfter : (n : ℕ) (q : Request T O) (refuse : ℕ → R) → Alike A (accountAfter m n b w A q refuse) (accountAfter m n b v A q refuse)
-    own-accountAfter n q refuse =
+    own-ofAfter : (n : ℕ) (q : Q) → Alike A (ofAfter m n b w A q) (ofAfter m n b v A q)
+    own-ofAfter n q =
         if-both (Alike A) (eqb n 0) _ _ _ _
-        (λ t. if-both (Alike A) (ltb A accountCount) _ _ _ _ (own-ask q) (λ u. own-unchanged w v alike (refuse 7)))
-        (λ t. own-unchanged w v alike (refuse n))
+        (λ t. if-both (Alike A) (ltb A accountCount) _ _ _ _ (own-ask (ofAccount q)) (λ u. own-unchanged w v alike (refusedOf 7 q)))
+        (λ t. own-unchanged w v alike (refusedOf n q))
 
-    own-step : (st : Step T O) → own m A w st ≡ true → Alike A (step m b w st) (step m b v st)
+    own-step : (st : Step X Q) → own m A w st ≡ true → Alike A (step m b w st) (step m b v st)
     unfolding step opened closed
     own-step (opens s) h =
         if-both (λ (r q : Moved). Alike A (move m w r) (move m v q)) (leb sessionCount s) _ _ _ _
@@ -130,43 +130,40 @@ module _ (m : Machine) (keeps : Keeps m) (b : m .Book) (A : ℕ) where
         if-both (λ (r q : Moved). Alike A (move m w r) (move m v q)) (leb sessionCount s) _ _ _ _
         (λ t. own-unchanged w v alike (numbered 2))
         (λ t. own-entry w v alike s Closed (numbered 0))
-    own-step (octets s x) h =
+    own-step (on s x) h =
         rw (z .table, y .table)
         (if-both (Alike A) (leb sessionCount s) _ _ _ _
-        (λ t. own-unchanged w v alike (refusedOctets 2 x))
-        (λ t. own-octetsAfter (earlyOctets b tableSize x) s x h))
-    own-step (outcome a x) h =
-        rw (z .table, y .table, eqb-true a A (or-idle (eqb a A) h)) (own-accountAfter (earlyOutcome b tableSize x) (reported x) numbered)
-    own-step (picks a) h =
-        rw (z .table, y .table, eqb-true a A (or-idle (eqb a A) h)) (own-accountAfter (earlyPick b tableSize) picked refusedPick)
+        (λ t. own-unchanged w v alike (refusedOn 2 x))
+        (λ t. own-onAfter (earlyOn b tableSize x) s x h))
+    own-step (of a q) h = rw (z .table, y .table, eqb-true a A (or-idle (eqb a A) h)) (own-ofAfter (earlyOf b tableSize q) q)
 
   -- ---- a step that binds its session to A: that session was open. Its twin's is closed and opened afresh, none of which A is shown
 
-  front-step : (u : World) → Sized u → (s : ℕ) → s < sessionCount → entryAt (u .state) s ≡ Open → (x : T) → earlyOctets b tableSize x ≡ 0
-      → step m b u (octets s x) ≡ fronted m b u s x
+  front-step : (u : World) → Sized u → (s : ℕ) → s < sessionCount → entryAt (u .state) s ≡ Open → (x : X) → earlyOn b tableSize x ≡ 0
+      → step m b u (on s x) ≡ fronted m b u s x
   unfolding step if_then_else_
-  front-step u z s l e x n = rw (lt-leb sessionCount s l, z .table, eq-eqb (earlyOctets b tableSize x) 0 n, e)
+  front-step u z s l e x n = rw (lt-leb sessionCount s l, z .table, eq-eqb (earlyOn b tableSize x) 0 n, e)
 
   module _ (v : World) (y : Sized v) (s : ℕ) (l : s < sessionCount) where
-    reopened-is : reopened m b v s ≡ putEntry m (putEntry m v s Closed) s Open
+    reopened-is : reopened m b v s ≡ putEntry (putEntry v s Closed) s Open
     unfolding step opened closed if_then_else_
-    reopened-is = rw (lt-leb sessionCount s l, entry-put m v y s l Closed)
+    reopened-is = rw (lt-leb sessionCount s l, entry-put v y s l Closed)
 
     reopened-open : entryAt (reopened m b v s .state) s ≡ Open
     reopened-open =
-        ap (λ (u : World). entryAt (u .state) s) reopened-is ∙ entry-put m (putEntry m v s Closed) (sized-entry m v y s Closed) s l Open
+        ap (λ (u : World). entryAt (u .state) s) reopened-is ∙ entry-put (putEntry v s Closed) (sized-entry v y s Closed) s l Open
 
     reopened-view : boundTo A (entryAt (v .state) s) ≡ false → view A (reopened m b v s) ≡ view A v
     reopened-view h =
         ap (view A) reopened-is
-        ∙ view-hidden m A (putEntry m v s Closed) s Open (ap (boundTo A) (entry-put m v y s l Closed)) refl
-        ∙ view-hidden m A v s Closed h refl
+        ∙ view-hidden A (putEntry v s Closed) s Open (ap (boundTo A) (entry-put v y s l Closed)) refl
+        ∙ view-hidden A v s Closed h refl
 
   -- a step that leaves what A sees binds no session to A
-  bind-step : (w v : World) → Sized v → view A w ≡ view A v → (st : Step T O) (r : Ran R) → Foreign m b A w r st → boundIn m A w st ≡ false
+  bind-step : (w v : World) → Sized v → view A w ≡ view A v → (st : Step X Q) (r : Ran R) → Foreign m b A w r st → boundIn m A w st ≡ false
       → boundIn m A (r .world) st ≡ true → Alike A r (step m b (anew m b v st) st)
   bind-step w v y alike st r (leaves e) h k = absurd (true≢false (sym k ∙ boundIn-same A (r .world) w e m st ∙ h))
-  bind-step w v y alike (octets s x) r (fronts l n e) h k =
+  bind-step w v y alike (on s x) r (fronts l n e) h k =
       let u = reopened m b v s in
       rw (e, front-step u (sized-reopened m b v y s) s l (reopened-open v y s l) x n)
       (own-entry w u (alike ∙ sym (reopened-view v y s l (sym (bound-same A w v alike s) ∙ h))) s (front b x .after) (front b x .answer))
@@ -174,19 +171,18 @@ module _ (m : Machine) (keeps : Keeps m) (b : m .Book) (A : ℕ) where
   -- ---- the twin
 
   -- a step that comes on a session names no account
-  unnamed : (w : World) (st : Step T O) → boundIn m A w st ≡ true → names m A st ≡ false
+  unnamed : (w : World) (st : Step X Q) → boundIn m A w st ≡ true → names m A st ≡ false
   unnamed w (opens s) h = refl
   unnamed w (closes s) h = refl
-  unnamed w (octets s x) h = refl
-  unnamed w (outcome a x) h = absurd (true≢false (sym h))
-  unnamed w (picks a) h = absurd (true≢false (sym h))
+  unnamed w (on s x) h = refl
+  unnamed w (of a q) h = absurd (true≢false (sym h))
 
   -- a step that concerns A binds its session where the step is not A's own yet
-  pub mark : (w : World) (st : Step T O) → concerns m A b w st ≡ true → binds m A b w st ≡ not (own m A w st)
+  pub mark : (w : World) (st : Step X Q) → concerns m A b w st ≡ true → binds m A b w st ≡ not (own m A w st)
   unfolding concerns binds
   mark w st c = mark-of (names m A st) (boundIn m A w st) (boundIn m A (step m b w st .world) st) (unnamed (step m b w st .world) st) c
 
-  module _ (w v : World) (z : Sized w) (y : Sized v) (alike : view A w ≡ view A v) (st : Step T O) (c : concerns m A b w st ≡ true) where
+  module _ (w v : World) (z : Sized w) (y : Sized v) (alike : view A w ≡ view A v) (st : Step X Q) (c : concerns m A b w st ≡ true) where
     twin-bind : binds m A b w st ≡ true → Alike A (step m b w st) (step m b (anew m b v st) st)
     unfolding binds
     twin-bind t =

@@ -12,11 +12,11 @@ use lib.Seq.{map-set-same, getD-set-same, getD-set-other}
 use Rattle.octets.specs.Choice.{if_then_else_}
 use Rattle.octets.proofs.StretchLaws.{if-cases, if-true, if-false}
 use Rattle.octets.proofs.PatchLaws.{part-patch, part-before, part-after}
-use Rattle.session.specs.State.{sessionCount, accountCount, closedSession, entryAt, lastAt}
+use Rattle.session.specs.State.{sessionCount, accountCount, closedSession, entryAt}
 use Rattle.session.specs.declared.Entry.{Entry}
 use Rattle.session.specs.declared.Entry.the-variants.{Closed}
 use Rattle.session.specs.declared.Session.{Session}
-use Rattle.isolation.specs.Platform.{partSize, partOf, World, Step, opens, closes, octets, outcome, picks, Effect, Machine, put, putEntry}
+use Rattle.isolation.specs.Platform.{partSize, World, Own, ownOf, putOwn, putEntry, Step, opens, closes, on, of, Machine}
 use Rattle.isolation.specs.History.{boundTo, boundIn}
 use Rattle.isolation.proofs.Sizes.{Sized}
 
@@ -29,18 +29,17 @@ shownOf A ses = shown A (ses .entry)
 
 pub record View : Type 0 where
   pub sessions : List Entry
-  pub part : List ℕ
-  pub last : ℕ
+  pub own : Own
 
 abbrev pub view : ℕ → World → View
-view A w = record { sessions = map (shownOf A) (w .state .sessions); part = partOf A (w .table); last = lastAt (w .state) A }
+view A w = record { sessions = map (shownOf A) (w .state .sessions); own = ownOf w A }
 
--- a view with other sessions, and one with another part and last id
+-- a view with other sessions, and one with another own
 abbrev pub withSessions : View → List Entry → View
-withSessions vw es = record { sessions = es; part = vw .part; last = vw .last }
+withSessions vw es = record { sessions = es; own = vw .own }
 
-abbrev pub withAccount : View → List ℕ → ℕ → View
-withAccount vw p n = record { sessions = vw .sessions; part = p; last = n }
+abbrev pub withOwn : View → Own → View
+withOwn vw o = record { sessions = vw .sessions; own = o }
 
 bound-shown : (A : ℕ) (e : Entry) → boundTo A (shown A e) ≡ boundTo A e
 bound-shown A e = if-cases (λ (d : Entry). boundTo A d ≡ boundTo A e) (boundTo A e) e Closed (λ h. refl) (λ h. sym h)
@@ -68,47 +67,42 @@ module _ (A : ℕ) (w v : World) (alike : view A w ≡ view A v) where
       ∙ shown-same s
       ∙ if-true (boundTo A (entryAt (v .state) s)) (entryAt (v .state) s) Closed (sym (bound-same s) ∙ h)
 
-  pub boundIn-same : (m : Machine) (st : Step (m .T) (m .O)) → boundIn m A w st ≡ boundIn m A v st
+  pub boundIn-same : (m : Machine) (st : Step (m .X) (m .Q)) → boundIn m A w st ≡ boundIn m A v st
   boundIn-same m (opens s) = bound-same s
   boundIn-same m (closes s) = bound-same s
-  boundIn-same m (octets s x) = bound-same s
-  boundIn-same m (outcome a x) = refl
-  boundIn-same m (picks a) = refl
+  boundIn-same m (on s x) = bound-same s
+  boundIn-same m (of a q) = refl
 
-module _ (m : Machine) where
-  open Machine m using (R)
+-- an entry that was put is there
+pub entry-put : (w : World) → Sized w → (s : ℕ) → s < sessionCount → (e : Entry) → entryAt (putEntry w s e .state) s ≡ e
+entry-put w z s l e =
+    ap (λ (ses : Session). ses .entry)
+    (getD-set-same (w .state .sessions) s (record { entry = e }) closedSession (omega (arith, z .sessions)))
 
-  -- an entry that was put is there
-  pub entry-put : (w : World) → Sized w → (s : ℕ) → s < sessionCount → (e : Entry) → entryAt (putEntry m w s e .state) s ≡ e
-  entry-put w z s l e =
-      ap (λ (ses : Session). ses .entry)
-      (getD-set-same (w .state .sessions) s (record { entry = e }) closedSession (omega (arith, z .sessions)))
+-- ---- what A sees once an entry is put, or what is an account's own
 
-  -- ---- what A sees once an entry is put, or an account
+module _ (A : ℕ) (w : World) where
+  pub view-entry : (s : ℕ) (e : Entry) → view A (putEntry w s e) ≡ withSessions (view A w) (set (view A w .sessions) s (shown A e))
+  view-entry s e = ap (withSessions (view A w)) (map-set (shownOf A) (w .state .sessions) s (record { entry = e }))
 
-  module _ (A : ℕ) (w : World) where
-    pub view-entry : (s : ℕ) (e : Entry) → view A (putEntry m w s e) ≡ withSessions (view A w) (set (view A w .sessions) s (shown A e))
-    view-entry s e = ap (withSessions (view A w)) (map-set (shownOf A) (w .state .sessions) s (record { entry = e }))
+  -- neither the session's entry before nor the one put is A's
+  pub view-hidden : (s : ℕ) (e : Entry) → boundTo A (entryAt (w .state) s) ≡ false → boundTo A e ≡ false → view A (putEntry w s e) ≡ view A w
+  view-hidden s e h k =
+      ap (withSessions (view A w))
+      (map-set-same (shownOf A) (w .state .sessions) s (record { entry = e }) closedSession
+      (if-false (boundTo A e) e Closed k ∙ sym (if-false (boundTo A (entryAt (w .state) s)) (entryAt (w .state) s) Closed h)))
 
-    -- neither the session's entry before nor the one put is A's
-    pub view-hidden : (s : ℕ) (e : Entry) → boundTo A (entryAt (w .state) s) ≡ false → boundTo A e ≡ false → view A (putEntry m w s e) ≡ view A w
-    view-hidden s e h k =
-        ap (withSessions (view A w))
-        (map-set-same (shownOf A) (w .state .sessions) s (record { entry = e }) closedSession
-        (if-false (boundTo A e) e Closed k ∙ sym (if-false (boundTo A (entryAt (w .state) s)) (entryAt (w .state) s) Closed h)))
+  pub view-other : (a : ℕ) (o : Own) → length (o .part) ≡ partSize → A ≢ a → view A (putOwn w a o) ≡ view A w
+  view-other a o lp ne =
+      ap₂ {C = View} (λ (p : List ℕ) (n : ℕ). withOwn (view A w) (record { part = p; last = n }))
+      (elim (decLt A a) [
+        | yes below ↦ part-before (w .table) (partSize * a) (o .part) (partSize * A) partSize (omega arith)
+        | no above ↦ part-after (w .table) (partSize * a) (o .part) (partSize * A) partSize (omega arith)
+      ])
+      (getD-set-other (w .state .lasts) a A (o .last) 0 ne)
 
-    pub view-other : (a : ℕ) (r : Effect R) → length (r .part) ≡ partSize → A ≢ a → view A (put m w a r .world) ≡ view A w
-    view-other a r lp ne =
-        ap₂ (withAccount (view A w))
-        (elim (decLt A a) [
-          | yes below ↦ part-before (w .table) (partSize * a) (r .part) (partSize * A) partSize (omega arith)
-          | no above ↦ part-after (w .table) (partSize * a) (r .part) (partSize * A) partSize (omega arith)
-        ])
-        (getD-set-other (w .state .lasts) a A (r .last) 0 ne)
-
-    pub view-own : Sized w → (r : Effect R) → length (r .part) ≡ partSize → A < accountCount
-        → view A (put m w A r .world) ≡ withAccount (view A w) (r .part) (r .last)
-    view-own z r lp la =
-        ap₂ (withAccount (view A w))
-        (rw lp at (part-patch (w .table) (partSize * A) (r .part) (omega (arith, z .table))))
-        (getD-set-same (w .state .lasts) A (r .last) 0 (omega (arith, z .lasts)))
+  pub view-own : Sized w → (o : Own) → length (o .part) ≡ partSize → A < accountCount → view A (putOwn w A o) ≡ withOwn (view A w) o
+  view-own z o lp la =
+      ap₂ {C = View} (λ (p : List ℕ) (n : ℕ). withOwn (view A w) (record { part = p; last = n }))
+      (rw lp at (part-patch (w .table) (partSize * A) (o .part) (omega (arith, z .table))))
+      (getD-set-same (w .state .lasts) A (o .last) 0 (omega (arith, z .lasts)))

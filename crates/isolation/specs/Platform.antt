@@ -8,18 +8,13 @@ use lib.Dec.{ltb, leb, eqb}
 use lib.ListN.{length, replicate}
 use Rattle.octets.specs.Choice.{if_then_else_}
 use Rattle.octets.specs.Stretch.{part, patch}
+pub use Rattle.records.specs.Layout.{partSize, tableSize}
 use Rattle.session.specs.State.{sessionCount, accountCount, entryAt, lastAt, bound, issued, opened, closed}
 use Rattle.session.specs.State as S
 use Rattle.session.specs.declared.Entry.{Entry}
 use Rattle.session.specs.declared.Entry.the-variants.{Closed, Open, Transmitter, Receiver, Ended}
 use Rattle.session.specs.declared.State.{State}
 use Rattle.session.specs.declared.Moved.{Moved}
-
-abbrev pub partSize : ℕ
-partSize = 4096
-
-abbrev pub tableSize : ℕ
-tableSize = 32768
 
 -- account a's part of the table, and the table with that part replaced
 abbrev pub partOf : ℕ → List ℕ → List ℕ
@@ -36,29 +31,45 @@ pub record World : Type 0 where
 unfoldable pub fresh : World
 fresh = record { state = S.fresh; table = replicate tableSize 0 }
 
--- ---- what is asked. T: what a call that takes octets is given besides book, table, state and session; O: what an outcome is given besides
--- book, table, state and account
+-- all that is an account's own: its part of the table and its last id
+pub record Own : Type 0 where
+  pub part : List ℕ
+  pub last : ℕ
 
-pub data Step (T O : Type 0) : Type 0 where
-  opens : ℕ → Step T O
-  closes : ℕ → Step T O
-  octets : ℕ → T → Step T O
-  outcome : ℕ → O → Step T O
-  picks : ℕ → Step T O
+abbrev pub owning : List ℕ → ℕ → Own
+owning p n = record { part = p; last = n }
 
--- of an account: octets on a session with that entry, an outcome, a pick
-pub data Request (T O : Type 0) : Type 0 where
-  taken : Entry → T → Request T O
-  reported : O → Request T O
-  picked : Request T O
+-- what is account a's own in a world
+abbrev pub ownOf : World → ℕ → Own
+ownOf w a = owning (partOf a (w .table)) (lastAt (w .state) a)
+
+-- the world with another account's own, and with another entry of a session
+abbrev pub putOwn : World → ℕ → Own → World
+putOwn w a o = record { state = issued (w .state) a (o .last); table = putPart a (o .part) (w .table) }
+
+abbrev pub putEntry : World → ℕ → Entry → World
+putEntry w s e = record { state = bound (w .state) s e; table = w .table }
+
+-- ---- what is asked, in four kinds of step: a session is opened; it is closed; something (an X) is asked on a session; something (a Q) is asked
+-- of an account. A step holds what its call is given, but for the book, the table and the state
+
+pub data Step (X Q : Type 0) : Type 0 where
+  opens : ℕ → Step X Q
+  closes : ℕ → Step X Q
+  on : ℕ → X → Step X Q
+  of : ℕ → Q → Step X Q
+
+-- what an account is asked: an X on a session with that entry, or a Q
+pub data Request (X Q : Type 0) : Type 0 where
+  onSession : Entry → X → Request X Q
+  ofAccount : Q → Request X Q
 
 -- ---- what is answered
 
--- by an account's function: the answer, the account's part and last id afterwards, and whether the session ends
+-- by an account's function: the answer, what is the account's own afterwards, and whether the session ends
 pub record Effect (R : Type 0) : Type 0 where
   pub answer : R
-  pub part : List ℕ
-  pub last : ℕ
+  pub own : Own
   pub ends : Bool
 
 -- by an open session's function: the answer, and the session's entry afterwards
@@ -75,73 +86,67 @@ pub record Ran (R : Type 0) : Type 0 where
 
 pub record Machine : Type 1 where
   pub Book : Type 0
-  pub T : Type 0
-  pub O : Type 0
+  pub X : Type 0
+  pub Q : Type 0
   pub R : Type 0
-  -- the answer that is a number alone; that of refused octets; that of a refused pick
+  -- the answer to opening and closing, a number alone; the refusal of an X, and of a Q, with a number
   pub numbered : ℕ → R
-  pub refusedOctets : ℕ → T → R
-  pub refusedPick : ℕ → R
+  pub refusedOn : ℕ → X → R
+  pub refusedOf : ℕ → Q → R
   -- the first number that the call's own arguments and the table's size give, or 0
-  pub earlyOctets : Book → ℕ → T → ℕ
-  pub earlyOutcome : Book → ℕ → O → ℕ
-  pub earlyPick : Book → ℕ → ℕ
-  -- octets on an open session
-  pub front : Book → T → Front R
-  -- anything asked of account a, of which it sees its part and its last id
-  pub act : Book → ℕ → Request T O → List ℕ → ℕ → Effect R
+  pub earlyOn : Book → ℕ → X → ℕ
+  pub earlyOf : Book → ℕ → Q → ℕ
+  -- an X on an open session
+  pub front : Book → X → Front R
+  -- anything asked of account a, which sees what is its own
+  pub act : Book → ℕ → Request X Q → Own → Effect R
 
 module _ (m : Machine) where
-  open Machine m using (Book, T, O, R, numbered, refusedOctets, refusedPick, earlyOctets, earlyOutcome, earlyPick, front, act)
+  open Machine m using (Book, X, Q, R, numbered, refusedOn, refusedOf, earlyOn, earlyOf, front, act)
 
   abbrev pub unchanged : World → R → Ran R
   unchanged w r = record { answer = r; world = w }
 
   -- account a is asked, and what it gives is put into the world
-  abbrev pub ask : Book → World → ℕ → Request T O → Effect R
-  ask b w a q = act b a q (partOf a (w .table)) (lastAt (w .state) a)
+  abbrev pub ask : Book → World → ℕ → Request X Q → Effect R
+  ask b w a q = act b a q (ownOf w a)
 
   abbrev pub put : World → ℕ → Effect R → Ran R
-  put w a e = record { answer = e .answer; world = record { state = issued (w .state) a (e .last); table = putPart a (e .part) (w .table) } }
-
-  abbrev pub putEntry : World → ℕ → Entry → World
-  putEntry w s e = record { state = bound (w .state) s e; table = w .table }
+  put w a e = record { answer = e .answer; world = putOwn w a (e .own) }
 
   -- ---- opening and closing: the state alone moves
 
   abbrev pub move : World → Moved → Ran R
   move w r = record { answer = numbered (r .number); world = record { state = r .state; table = w .table } }
 
-  -- ---- octets: 2, then what the arguments give (3, 4, 5), 6, 9, and then what the session's entry makes of them
+  -- ---- on a session: 2, then what the arguments give, 6, 9, and then what the session's entry makes of it
 
   abbrev pub settle : World → ℕ → Entry → ℕ → Effect R → Ran R
   settle w s e a r = put (putEntry w s (if r .ends then Ended else e)) a r
 
-  abbrev pub octetsOf : Book → World → ℕ → T → Entry → ℕ → Ran R
-  octetsOf b w s x e a = if ltb a accountCount then settle w s e a (ask b w a (taken e x)) else unchanged w (refusedOctets 9 x)
+  abbrev pub onAccount : Book → World → ℕ → X → Entry → ℕ → Ran R
+  onAccount b w s x e a = if ltb a accountCount then settle w s e a (ask b w a (onSession e x)) else unchanged w (refusedOn 9 x)
 
-  abbrev pub octetsOn : Book → World → ℕ → T → Entry → Ran R
-  octetsOn b w s x Closed = unchanged w (refusedOctets 6 x)
-  octetsOn b w s x Open = unchanged (putEntry w s (front b x .after)) (front b x .answer)
-  octetsOn b w s x (Transmitter a) = octetsOf b w s x (Transmitter a) a
-  octetsOn b w s x (Receiver a) = octetsOf b w s x (Receiver a) a
-  octetsOn b w s x Ended = unchanged w (refusedOctets 6 x)
+  abbrev pub onEntry : Book → World → ℕ → X → Entry → Ran R
+  onEntry b w s x Closed = unchanged w (refusedOn 6 x)
+  onEntry b w s x Open = record { answer = front b x .answer; world = putEntry w s (front b x .after) }
+  onEntry b w s x (Transmitter a) = onAccount b w s x (Transmitter a) a
+  onEntry b w s x (Receiver a) = onAccount b w s x (Receiver a) a
+  onEntry b w s x Ended = unchanged w (refusedOn 6 x)
 
-  abbrev pub octetsAfter : ℕ → Book → World → ℕ → T → Ran R
-  octetsAfter n b w s x = if eqb n 0 then octetsOn b w s x (entryAt (w .state) s) else unchanged w (refusedOctets n x)
+  abbrev pub onAfter : ℕ → Book → World → ℕ → X → Ran R
+  onAfter n b w s x = if eqb n 0 then onEntry b w s x (entryAt (w .state) s) else unchanged w (refusedOn n x)
 
-  -- ---- an outcome and a pick: what the arguments give, 7, and then what the account makes of it
+  -- ---- of an account: what the arguments give, 7, and then what the account makes of it
 
-  abbrev pub accountAfter : ℕ → Book → World → ℕ → Request T O → (ℕ → R) → Ran R
-  accountAfter n b w a q refuse =
+  abbrev pub ofAfter : ℕ → Book → World → ℕ → Q → Ran R
+  ofAfter n b w a q =
       if eqb n 0
-      then (if ltb a accountCount then put w a (ask b w a q) else unchanged w (refuse 7))
-      else unchanged w (refuse n)
+      then (if ltb a accountCount then put w a (ask b w a (ofAccount q)) else unchanged w (refusedOf 7 q))
+      else unchanged w (refusedOf n q)
 
-  unfoldable pub step : Book → World → Step T O → Ran R
+  unfoldable pub step : Book → World → Step X Q → Ran R
   step b w (opens s) = move w (opened (w .state) s)
   step b w (closes s) = move w (closed (w .state) s)
-  step b w (octets s x) =
-      if leb sessionCount s then unchanged w (refusedOctets 2 x) else octetsAfter (earlyOctets b (length (w .table)) x) b w s x
-  step b w (outcome a x) = accountAfter (earlyOutcome b (length (w .table)) x) b w a (reported x) numbered
-  step b w (picks a) = accountAfter (earlyPick b (length (w .table))) b w a picked refusedPick
+  step b w (on s x) = if leb sessionCount s then unchanged w (refusedOn 2 x) else onAfter (earlyOn b (length (w .table)) x) b w s x
+  step b w (of a q) = ofAfter (earlyOf b (length (w .table)) q) b w a q

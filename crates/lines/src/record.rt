@@ -4,6 +4,10 @@ ghost use Prim.Native.Nat.{_<_};
 ghost use lib.ListN.{length};
 ghost use Rattle.lines.specs.Record.{recordSize, lengthOf, orderOf, Readable};
 
+pub const SIZE: usize = 544;
+
+const PAYLOAD_SIZE: usize = 512;
+
 // What a record asks for.
 pub enum Order {
     Open,
@@ -30,7 +34,7 @@ pub fn length_of(asked: &[u8]) -> usize
 pub fn order_of(asked: &[u8]) -> Order
     ensures { λ r. ⌜ (r ≡ orderOf (now (asked .entry))) × Readable r (now (asked .entry)) ⌝ }
 {
-    if asked.len() != 544 {
+    if asked.len() != SIZE {
         return Order::Bad;
     }
     let kind = asked[0];
@@ -38,7 +42,7 @@ pub fn order_of(asked: &[u8]) -> Order
     match kind {
         0 => Order::Open,
         1 => {
-            if length <= 512 {
+            if length <= PAYLOAD_SIZE {
                 Order::Octets
             } else {
                 Order::Bad

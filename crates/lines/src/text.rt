@@ -7,6 +7,9 @@ ghost use Rattle.octets.specs.Stretch.{patch};
 ghost use Rattle.lines.specs.Line.{decimal, hexOf, shown, line, lineRoom};
 ghost use Rattle.answers.specs.Reply.{spaceNeeded};
 
+// The longest line: 3, 20 and 88 characters, two blanks and an end of line, with the number's 20 kept free.
+pub const ROOM: usize = 131;
+
 fn put_text(text: &mut [u8], at: usize, said: &[u8]) -> usize
     requires { ⌜ at + length (now said) ≤ length (now text) ⌝ }
     ensures { λ r. ⌜ (now (text .exit) ≡ patch (now (text .entry)) at (now (said .entry))) × (r ≡ at + length (now (said .entry))) ⌝ }

@@ -1,4 +1,5 @@
 pub mod Choice
 pub mod Stretch
+pub mod Lent
 pub mod Number
 pub mod Rows

@@ -1,12 +1,13 @@
 // Stretches of octets: a part of a slice, comparison, the test for zeros, a copy.
 ghost use mathlib.Core.Path.{_≡_};
 ghost use Prim.Native.Nat.{_+_, _≤_};
-ghost use lib.ListN.{length, take, drop};
+ghost use lib.ListN.{length};
 ghost use Rattle.octets.specs.Stretch.{same, zeros, patch};
+ghost use Rattle.octets.specs.Lent.{lent, lentFrom, lentFirst};
 
-// What lies from `at` on; nothing where the slice ends before that.
+// What lies from `at` on; where the slice ends before that, the empty part at its end.
 pub fn from(s: &[u8], at: usize) -> &[u8]
-    ensures { λ r. ⌜ now r ≡ drop at (now (s .entry)) ⌝ }
+    ensures { λ r. ⌜ lent r ≡ lentFrom at (lent (s .entry)) ⌝ }
 {
     if at <= s.len() {
         &s[at..]
@@ -18,7 +19,7 @@ pub fn from(s: &[u8], at: usize) -> &[u8]
 
 // The first n octets, or all where there are fewer.
 pub fn first(s: &[u8], n: usize) -> &[u8]
-    ensures { λ r. ⌜ now r ≡ take n (now (s .entry)) ⌝ }
+    ensures { λ r. ⌜ lent r ≡ lentFirst n (lent (s .entry)) ⌝ }
 {
     if n <= s.len() { &s[..n] } else { s }
 }

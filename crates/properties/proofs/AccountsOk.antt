@@ -14,18 +14,18 @@ use Rattle.records.proofs.RecordLaws.{zeros-part}
 use Rattle.forms.specs.Time.{sentTime}
 use Rattle.records.specs.Book.{bookSize, bookRecord, bookRecordSize, usedOk}
 use Rattle.store.specs.Account.{accountOk}
-use Rattle.session.specs.State.{sessionCount, accountCount, entryAt, lastAt, opened, openedFrom, closed}
+use Rattle.session.specs.State.{sessionCount, accountCount, entryAt, opened, openedFrom, closed}
 use Rattle.session.specs.declared.Entry.{Entry}
 use Rattle.session.specs.declared.Entry.the-variants.{Closed, Open, Transmitter, Receiver, Ended}
 use Rattle.session.specs.declared.Moved.{Moved}
-use Rattle.isolation.specs.Platform.{partSize, tableSize, World, fresh, partOf, Step, opens, closes, octets, outcome, picks, Request, taken, reported, Effect, Ran, ask, put, putEntry, move, octetsOf, octetsOn, step}
+use Rattle.isolation.specs.Platform.{partSize, tableSize, World, fresh, Own, ownOf, putOwn, putEntry, Step, opens, closes, on, of, Request, onSession, ofAccount, Effect, Ran, ask, put, move, onAccount, onEntry, step}
 use Rattle.isolation.specs.History.{after}
 use Rattle.isolation.proofs.Sizes.{Sized, sized-fresh, sized-step, sized-entry, asked-length}
 use Rattle.isolation.proofs.Views.{View, view-own, view-other}
-use Rattle.answers.specs.Answer.{Octets, Outcome, Answer}
+use Rattle.answers.specs.Answer.{Octets, Outcome, Question, outcome, pick, Answer}
 use Rattle.bound.specs.Bound.{Turn, replying, isTransmitter, onBound}
 use Rattle.centre.specs.Operations.{outcomeOk, onOutcome}
-use Rattle.centre.specs.Centre.{centre, act, earlyOctets, earlyOutcome}
+use Rattle.centre.specs.Centre.{centre, act, earlyOctets, outcomeEarly}
 use Rattle.wellformed.proofs.Accounts.{submitted-ok, cancelled-ok, replaced-ok, reported-ok}
 use Rattle.wellformed.proofs.GoodPartIs.{good-account}
 use Rattle.wellformed.proofs.Issued.{issued-bits}
@@ -38,39 +38,39 @@ use Rattle.properties.proofs.Unique.{property2}
 
 -- ---- one account, asked: well formed, with a last id of 32 bits
 
-pub record Fine (book : List ℕ) (last : ℕ) (part : List ℕ) : Type 0 where
-  pub ok : accountOk book last part ≡ true
-  pub bits : last ≤ 0xFFFFFFFF
+pub record Fine (book : List ℕ) (own : Own) : Type 0 where
+  pub ok : accountOk book (own .last) (own .part) ≡ true
+  pub bits : own .last ≤ 0xFFFFFFFF
 
-module _ (book part : List ℕ) (last : ℕ) where
+module _ (book : List ℕ) (own : Own) where
   abbrev FineAfter : Effect Answer → Type 0
-  FineAfter e = Fine book (e .last) (e .part)
+  FineAfter e = Fine book (e .own)
 
-  module _ (whole : length part ≡ partSize) (fine : Fine book last part) where
+  module _ (whole : length (own .part) ≡ partSize) (fine : Fine book own) where
     bound-fine : (transmitter : Bool) (x : Octets) → length book ≡ bookRecordSize → sentTime (x .stamp) ≡ true
-        → FineAfter (onBound transmitter book x part last)
+        → FineAfter (onBound transmitter book x own)
     unfolding replying
     bound-fine transmitter x sized sent =
-        bound-cases book x part last FineAfter (λ (t : Turn). Fine book (t .last) (t .part)) transmitter (λ _. fine)
+        bound-cases book x own FineAfter (λ (t : Turn). Fine book (t .own)) transmitter (λ _. fine)
         (λ _. record {
           same = λ _ _ _. fine;
           submits = λ body. record {
-            ok = submitted-ok book part last whole (fine .ok) sized (fine .bits) body;
-            bits = issued-bits book body part last (fine .bits);
+            ok = submitted-ok book (own .part) (own .last) whole (fine .ok) sized (fine .bits) body;
+            bits = issued-bits book body (own .part) (own .last) (fine .bits);
           };
-          cancels = λ body. record { ok = cancelled-ok book part last whole (fine .ok) (x .stamp) sent body; bits = fine .bits };
-          replaces = λ body. record { ok = replaced-ok book part last whole (fine .ok) body; bits = fine .bits };
+          cancels = λ body. record { ok = cancelled-ok book (own .part) (own .last) whole (fine .ok) (x .stamp) sent body; bits = fine .bits };
+          replaces = λ body. record { ok = replaced-ok book (own .part) (own .last) whole (fine .ok) body; bits = fine .bits };
         })
         (record { more = fine; nak = fine; quiet = λ _. fine; replies = λ _ _ _ _ q. q })
 
-    outcome-fine : (x : Outcome) → sentTime (x .stamp) ≡ true → FineAfter (onOutcome book x part last)
+    outcome-fine : (x : Outcome) → sentTime (x .stamp) ≡ true → FineAfter (onOutcome book x own)
     unfolding onOutcome
     outcome-fine x sent =
         if-cases FineAfter (not (outcomeOk (x .state))) _ _ (λ _. fine) λ t.
         let s = state-is (x .state) (not-false (outcomeOk (x .state)) t) in
-        if-cases FineAfter (not (accountOk book last part)) _ _ (λ _. fine) λ _.
+        if-cases FineAfter (not (accountOk book (own .last) (own .part))) _ _ (λ _. fine) λ _.
         record {
-          ok = reported-ok book part last whole (fine .ok) (x .stamp) sent (x .id) (x .state) (x .error) (s .0) (s .1) (s .2);
+          ok = reported-ok book (own .part) (own .last) whole (fine .ok) (x .stamp) sent (x .id) (x .state) (x .error) (s .0) (s .1) (s .2);
           bits = fine .bits;
         }
       where
@@ -90,34 +90,34 @@ module _ (book : List ℕ) (A : ℕ) (below : A < accountCount) where
   record-sized e = part-length (bookRecordSize * A) bookRecordSize book (omega arith)
 
   abbrev FineIn : World → Type 0
-  FineIn w = Fine (bookRecord A book) (lastAt (w .state) A) (partOf A (w .table))
+  FineIn w = Fine (bookRecord A book) (ownOf w A)
 
   abbrev FineRan : Ran Answer → Type 0
   FineRan r = FineIn (r .world)
 
   abbrev Seen : View → Type 0
-  Seen v = Fine (bookRecord A book) (v .last) (v .part)
+  Seen v = Fine (bookRecord A book) (v .own)
 
   -- what account a gives is put into u
-  put-fine : (u : World) → Sized u → FineIn u → (a : ℕ) (r : Effect Answer) → length (r .part) ≡ partSize
-      → (a ≡ A → Fine (bookRecord A book) (r .last) (r .part)) → FineRan (put centre u a r)
-  put-fine u z fine a r l own = by (eqb a A) refl
+  put-fine : (u : World) → Sized u → FineIn u → (a : ℕ) (o : Own) → length (o .part) ≡ partSize
+      → (a ≡ A → Fine (bookRecord A book) o) → FineIn (putOwn u a o)
+  put-fine u z fine a o l mine = by (eqb a A) refl
     where
-      by : (t : Bool) → eqb a A ≡ t → FineRan (put centre u a r)
+      by : (t : Bool) → eqb a A ≡ t → FineIn (putOwn u a o)
       by true e =
           let same = eqb-true a A e in
-          subst (λ (i : ℕ). FineRan (put centre u i r)) (sym same) (subst Seen (sym (view-own centre A u z r l below)) (own same))
-      by false e = subst Seen (sym (view-other centre A u a r l (λ p. eqb-false a A e (sym p)))) fine
+          subst (λ (i : ℕ). FineIn (putOwn u i o)) (sym same) (subst Seen (sym (view-own A u z o l below)) (mine same))
+      by false e = subst Seen (sym (view-other A u a o l (λ p. eqb-false a A e (sym p)))) fine
 
   module _ (w : World) (z : Sized w) (fine : FineIn w) where
-    whole : length (partOf A (w .table)) ≡ partSize
+    whole : length (ownOf w A .part) ≡ partSize
     whole = part-length (partSize * A) partSize (w .table) (omega (arith, z .table))
 
-    asked-fine : (a : ℕ) (q : Request Octets Outcome) → (let r = ask centre book w A q in Fine (bookRecord A book) (r .last) (r .part))
+    asked-fine : (a : ℕ) (q : Request Octets Question) → Fine (bookRecord A book) (ask centre book w A q .own)
         → (u : World) → Sized u → FineIn u → a < accountCount → FineRan (put centre u a (ask centre book w a q))
-    asked-fine a q own u y f l =
-        put-fine u y f a (ask centre book w a q) (asked-length centre book w z keeps a q l)
-        (λ same. subst (λ (i : ℕ). let r = ask centre book w i q in Fine (bookRecord A book) (r .last) (r .part)) (sym same) own)
+    asked-fine a q mine u y f l =
+        put-fine u y f a (ask centre book w a q .own) (asked-length centre book w z keeps a q l)
+        (λ same. subst (λ (i : ℕ). Fine (bookRecord A book) (ask centre book w i q .own)) (sym same) mine)
 
     fine-opened : (s : ℕ) (e : Entry) → FineRan (move centre w (openedFrom (w .state) s e))
     fine-opened s Closed = fine
@@ -127,40 +127,40 @@ module _ (book : List ℕ) (A : ℕ) (below : A < accountCount) where
     fine-opened s Ended = fine
 
     module _ (s : ℕ) (x : Octets) (fits : (length book ≡ bookSize) × (sentTime (x .stamp) ≡ true)) where
-      fine-octetsOf : (e : Entry) (a : ℕ) → FineRan (octetsOf centre book w s x e a)
+      fine-onAccount : (e : Entry) (a : ℕ) → FineRan (onAccount centre book w s x e a)
       unfolding act
-      fine-octetsOf e a =
+      fine-onAccount e a =
           if-cases FineRan (ltb a accountCount) _ _
-          (λ t. asked-fine a (taken e x) (bound-fine _ _ _ whole fine (isTransmitter e) x (record-sized (fits .0)) (fits .1))
-          (putEntry centre w s e) (sized-entry centre w z s e) fine (ltb-true a accountCount t))
+          (λ t. asked-fine a (onSession e x) (bound-fine _ _ whole fine (isTransmitter e) x (record-sized (fits .0)) (fits .1))
+          (putEntry w s e) (sized-entry w z s e) fine (ltb-true a accountCount t))
           (λ _. fine)
 
-      fine-octetsOn : (e : Entry) → FineRan (octetsOn centre book w s x e)
-      fine-octetsOn Closed = fine
-      fine-octetsOn Open = fine
-      fine-octetsOn (Transmitter a) = fine-octetsOf (Transmitter a) a
-      fine-octetsOn (Receiver a) = fine-octetsOf (Receiver a) a
-      fine-octetsOn Ended = fine
+      fine-onEntry : (e : Entry) → FineRan (onEntry centre book w s x e)
+      fine-onEntry Closed = fine
+      fine-onEntry Open = fine
+      fine-onEntry (Transmitter a) = fine-onAccount (Transmitter a) a
+      fine-onEntry (Receiver a) = fine-onAccount (Receiver a) a
+      fine-onEntry Ended = fine
 
-    fine-step : (st : Step Octets Outcome) → FineRan (step centre book w st)
+    fine-step : (st : Step Octets Question) → FineRan (step centre book w st)
     unfolding step act opened closed
     fine-step (opens s) =
         if-cases (λ (r : Moved). FineRan (move centre w r)) (leb sessionCount s) _ _ (λ _. fine) (λ _. fine-opened s (entryAt (w .state) s))
     fine-step (closes s) = if-cases (λ (r : Moved). FineRan (move centre w r)) (leb sessionCount s) _ _ (λ _. fine) (λ _. fine)
-    fine-step (octets s x) =
+    fine-step (on s x) =
         let early = earlyOctets book (length (w .table)) x in
         if-cases FineRan (leb sessionCount s) _ _ (λ _. fine) λ _.
-        if-cases FineRan (eqb early 0) _ _ (λ t. fine-octetsOn s x (let h = early-octets _ _ _ _ (eqb-true early 0 t) in (h .0 .0, h .2)) (entryAt (w .state) s)) (λ _. fine)
-    fine-step (outcome a x) =
-        let early = earlyOutcome book (length (w .table)) x in
+        if-cases FineRan (eqb early 0) _ _ (λ t. fine-onEntry s x (let h = early-octets _ _ _ _ (eqb-true early 0 t) in (h .0 .0, h .2)) (entryAt (w .state) s)) (λ _. fine)
+    fine-step (of a (outcome x)) =
+        let early = outcomeEarly (length book) (length (w .table)) (x .stamp) in
         if-cases FineRan (eqb early 0) _ _
         (λ t. if-cases FineRan (ltb a accountCount) _ _
-        (λ l. asked-fine a (reported x) (outcome-fine _ _ _ whole fine x (early-outcome _ _ _ (eqb-true early 0 t) .1)) w z fine (ltb-true a accountCount l))
+        (λ l. asked-fine a (ofAccount (outcome x)) (outcome-fine _ _ whole fine x (early-outcome _ _ _ (eqb-true early 0 t) .1)) w z fine (ltb-true a accountCount l))
         (λ _. fine))
         (λ _. fine)
-    fine-step (picks a) = subst FineRan (sym (property2 .picking book w a)) fine
+    fine-step (of a pick) = subst FineIn (sym (property2 .picking book w a .0)) fine
 
-  fine-after : (hs : List (Step Octets Outcome)) (w : World) → Sized w → FineIn w → FineIn (after centre book w hs)
+  fine-after : (hs : List (Step Octets Question)) (w : World) → Sized w → FineIn w → FineIn (after centre book w hs)
   fine-after [] w z fine = fine
   fine-after (st ∷ hs) w z fine = fine-after hs _ (sized-step centre book w z st) (fine-step w z fine st)
 
@@ -173,5 +173,5 @@ module _ (book : List ℕ) (A : ℕ) (below : A < accountCount) where
         bits = omega (arith, z);
       }
 
-  pub fine-history : (hs : List (Step Octets Outcome)) → usedOk (bookRecord A book) ≡ true → FineIn (after centre book fresh hs)
+  pub fine-history : (hs : List (Step Octets Question)) → usedOk (bookRecord A book) ≡ true → FineIn (after centre book fresh hs)
   fine-history hs used = fine-after hs fresh sized-fresh (fine-fresh used)

@@ -23,13 +23,12 @@ use Rattle.session.specs.declared.Entry.{Entry}
 use Rattle.session.specs.declared.Entry.the-variants.{Closed, Open, Transmitter, Receiver, Ended}
 use Rattle.session.specs.declared.Moved.{Moved}
 use Rattle.session.specs.declared.Session.{Session}
-use Rattle.isolation.specs.Platform.{World, fresh, Step, opens, closes, octets, outcome, picks, Ran, ask, taken, move, octetsOn, step}
-use Rattle.isolation.specs.Platform as P
+use Rattle.isolation.specs.Platform.{World, fresh, putEntry, Step, opens, closes, on, of, Ran, ask, onSession, move, onAccount, onEntry, step}
 use Rattle.isolation.specs.History.{boundTo, after}
-use Rattle.answers.specs.Answer.{Octets, Outcome, Answer}
+use Rattle.answers.specs.Answer.{Octets, Question, Answer}
 use Rattle.open.specs.Open.{notBound, legOf, bindTo, openBind, openCommand, openFrame, onOpen}
 use Rattle.open.specs.declared.Bound.{Bound}
-use Rattle.centre.specs.Centre.{centre, earlyOctets, earlyOutcome, earlyPick}
+use Rattle.centre.specs.Centre.{centre, earlyOctets, earlyQuestion}
 use Rattle.wellformed.proofs.Cases.{found-cases, read-cases}
 use Rattle.properties.proofs.Named.{named-used}
 
@@ -105,7 +104,7 @@ module _ (book : List ℕ) where
   AllAfter r = AllLead (r .world)
 
   module _ (w : World) (h : AllLead w) where
-    put-lead : (s : ℕ) (e : Entry) → Leads e → AllLead (P.putEntry centre w s e)
+    put-lead : (s : ℕ) (e : Entry) → Leads e → AllLead (putEntry w s e)
     put-lead s e l = set-each (λ ses. Leads (ses .entry)) (w .state .sessions) s (record { entry = e }) l h
 
     opened-lead : (s : ℕ) (e : Entry) → AllAfter (move centre w (openedFrom (w .state) s e))
@@ -115,35 +114,33 @@ module _ (book : List ℕ) where
     opened-lead s (Receiver a) = h
     opened-lead s Ended = h
 
-    octetsOf-lead : (s : ℕ) (x : Octets) (e : Entry) (a : ℕ) → Leads e → AllAfter (P.octetsOf centre book w s x e a)
-    octetsOf-lead s x e a l =
+    onAccount-lead : (s : ℕ) (x : Octets) (e : Entry) (a : ℕ) → Leads e → AllAfter (onAccount centre book w s x e a)
+    onAccount-lead s x e a l =
         if-cases AllAfter (ltb a accountCount) _ _
-        (λ _. put-lead s _ (if-cases Leads (ask centre book w a (taken e x) .ends) Ended e (λ _. unbound Ended (λ _. refl)) (λ _. l)))
+        (λ _. put-lead s _ (if-cases Leads (ask centre book w a (onSession e x) .ends) Ended e (λ _. unbound Ended (λ _. refl)) (λ _. l)))
         (λ _. h)
 
-    octetsOn-lead : (s : ℕ) (x : Octets) (e : Entry) → Leads e → AllAfter (octetsOn centre book w s x e)
+    onEntry-lead : (s : ℕ) (x : Octets) (e : Entry) → Leads e → AllAfter (onEntry centre book w s x e)
     unfolding onOpen
-    octetsOn-lead s x Closed l = h
-    octetsOn-lead s x Open l = put-lead s _ (frame-leads (x .octets) (x .space) (frameOf (x .octets)))
-    octetsOn-lead s x (Transmitter a) l = octetsOf-lead s x (Transmitter a) a l
-    octetsOn-lead s x (Receiver a) l = octetsOf-lead s x (Receiver a) a l
-    octetsOn-lead s x Ended l = h
+    onEntry-lead s x Closed l = h
+    onEntry-lead s x Open l = put-lead s _ (frame-leads (x .octets) (x .space) (frameOf (x .octets)))
+    onEntry-lead s x (Transmitter a) l = onAccount-lead s x (Transmitter a) a l
+    onEntry-lead s x (Receiver a) l = onAccount-lead s x (Receiver a) a l
+    onEntry-lead s x Ended l = h
 
-    step-lead : (st : Step Octets Outcome) → AllAfter (step centre book w st)
+    step-lead : (st : Step Octets Question) → AllAfter (step centre book w st)
     unfolding step opened closed
     step-lead (opens s) =
         if-cases (λ (r : Moved). AllAfter (move centre w r)) (leb sessionCount s) _ _ (λ _. h) (λ _. opened-lead s (entryAt (w .state) s))
     step-lead (closes s) =
         if-cases (λ (r : Moved). AllAfter (move centre w r)) (leb sessionCount s) _ _ (λ _. h) (λ _. put-lead s Closed (unbound Closed (λ _. refl)))
-    step-lead (octets s x) =
+    step-lead (on s x) =
         if-cases AllAfter (leb sessionCount s) _ _ (λ _. h) λ _.
-        if-cases AllAfter (eqb (earlyOctets book (length (w .table)) x) 0) _ _ (λ _. octetsOn-lead s x (entryAt (w .state) s) (h s)) (λ _. h)
-    step-lead (outcome a x) =
-        if-cases AllAfter (eqb (earlyOutcome book (length (w .table)) x) 0) _ _ (λ _. if-cases AllAfter (ltb a accountCount) _ _ (λ _. h) (λ _. h)) (λ _. h)
-    step-lead (picks a) =
-        if-cases AllAfter (eqb (earlyPick book (length (w .table))) 0) _ _ (λ _. if-cases AllAfter (ltb a accountCount) _ _ (λ _. h) (λ _. h)) (λ _. h)
+        if-cases AllAfter (eqb (earlyOctets book (length (w .table)) x) 0) _ _ (λ _. onEntry-lead s x (entryAt (w .state) s) (h s)) (λ _. h)
+    step-lead (of a q) =
+        if-cases AllAfter (eqb (earlyQuestion book (length (w .table)) q) 0) _ _ (λ _. if-cases AllAfter (ltb a accountCount) _ _ (λ _. h) (λ _. h)) (λ _. h)
 
-  after-lead : (hs : List (Step Octets Outcome)) (w : World) → AllLead w → AllLead (after centre book w hs)
+  after-lead : (hs : List (Step Octets Question)) (w : World) → AllLead w → AllLead (after centre book w hs)
   after-lead [] w h = h
   after-lead (st ∷ hs) w h = after-lead hs _ (step-lead w h st)
 
@@ -152,6 +149,6 @@ module _ (book : List ℕ) where
   fresh-lead (suc n) zero = unbound Closed (λ _. refl)
   fresh-lead (suc n) (suc s) = fresh-lead n s
 
-  pub history-lead : (hs : List (Step Octets Outcome)) → AllLead (after centre book fresh hs)
+  pub history-lead : (hs : List (Step Octets Question)) → AllLead (after centre book fresh hs)
   unfolding fresh
   history-lead hs = after-lead hs fresh (fresh-lead sessionCount)

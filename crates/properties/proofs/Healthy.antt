@@ -9,7 +9,7 @@ use Rattle.records.specs.Book.{bookRecord, usedOk}
 use Rattle.session.specs.State.{accountCount}
 use Rattle.isolation.specs.Platform.{fresh, Step}
 use Rattle.isolation.specs.History.{after}
-use Rattle.answers.specs.Answer.{Octets, Outcome}
+use Rattle.answers.specs.Answer.{Octets, Question}
 use Rattle.centre.specs.Centre.{centre}
 use Rattle.properties.specs.Property1.{wellFormed}
 use Rattle.properties.specs.Healthy.{Healthy}
@@ -23,7 +23,7 @@ NotNine n = n ≡ 9 → ⊥
 other : (n : ℕ) → eqb n 9 ≡ false → NotNine n
 other n h = eqb-false n 9 h
 
-module _ (book : List ℕ) (hs : List (Step Octets Outcome)) where
+module _ (book : List ℕ) (hs : List (Step Octets Question)) where
   stays : (a : ℕ) → a < accountCount → usedOk (bookRecord a book) ≡ true → wellFormed book (after centre book fresh hs) a
   stays a below used = fine-history book a below hs used .ok
 
@@ -34,12 +34,12 @@ pub healthy : Healthy
 healthy =
     record {
       stays = stays;
-      octets = λ book hs s x.
+      taking = λ book hs s x.
           octets-number NotNine book (after centre book fresh hs) s x (other 0 refl) (other 1 refl) (other 2 refl) (other 3 refl) (other 4 refl) (other 5 refl)
           (other 6 refl) (λ a t. let u = history-lead book hs s a t in not-ill book hs a (u .below) (u .used));
-      outcome = λ book hs a x below used.
+      reporting = λ book hs a x below used.
           outcome-step NotNine book (after centre book fresh hs) a x (other 0 refl) (other 3 refl) (other 5 refl) (other 7 refl) (other 8 refl)
           (not-ill book hs a below used) (other 10 refl);
-      picks = λ book hs a below used.
+      picking = λ book hs a below used.
           pick-step NotNine book (after centre book fresh hs) a (other 0 refl) (other 3 refl) (other 7 refl) (not-ill book hs a below used) (other 11 refl);
     }

@@ -7,11 +7,10 @@ use lib.ListN.{length}
 use Rattle.octets.proofs.StretchLaws.{if-cases}
 use Rattle.store.specs.Places.{recordAt}
 use Rattle.store.specs.Search.{nextPlace}
-use Rattle.isolation.specs.Platform.{Effect, taken, reported, picked}
+use Rattle.isolation.specs.Platform.{Own, Effect, onSession, ofAccount}
 use Rattle.isolation.specs.Isolation.{Keeps}
 use Rattle.isolation.proofs.Theorem.{isolated, alone}
-use Rattle.answers.specs.Answer.{Octets, Outcome, Answer, refusedPick}
-use Rattle.answers.specs.Answer as A
+use Rattle.answers.specs.Answer.{Octets, Outcome, outcome, pick, Answer, numbered, picked}
 use Rattle.bound.specs.Bound.{Turn, replying, keeping, onBound}
 use Rattle.centre.specs.Operations.{onOutcome, onPick}
 use Rattle.centre.specs.Centre.{act, centre}
@@ -20,39 +19,39 @@ use Rattle.wellformed.proofs.Lengths.{submitted-length, cancelled-length, repla
 use Rattle.properties.specs.Property3.{Property3}
 use Rattle.properties.proofs.BoundCases.{bound-cases}
 
-module _ (book part : List ℕ) (last : ℕ) where
+module _ (book : List ℕ) (own : Own) where
   abbrev Kept : Effect Answer → Type 0
-  Kept e = length (e .part) ≡ length part
+  Kept e = length (e .own .part) ≡ length (own .part)
 
-  bound-length : (transmitter : Bool) (x : Octets) → Kept (onBound transmitter book x part last)
+  bound-length : (transmitter : Bool) (x : Octets) → Kept (onBound transmitter book x own)
   unfolding replying
   bound-length transmitter x =
-      bound-cases book x part last Kept (λ (t : Turn). length (t .part) ≡ length part) transmitter (λ _. refl)
+      bound-cases book x own Kept (λ (t : Turn). length (t .own .part) ≡ length (own .part)) transmitter (λ _. refl)
       (λ _. record {
         same = λ _ _ _. refl;
-        submits = λ body. submitted-length book body part last;
-        cancels = cancelled-length part book (x .stamp);
-        replaces = replaced-length part book;
+        submits = λ body. submitted-length book body (own .part) (own .last);
+        cancels = cancelled-length (own .part) book (x .stamp);
+        replaces = replaced-length (own .part) book;
       })
       (record { more = refl; nak = refl; quiet = λ _. refl; replies = λ _ _ _ _ q. q })
 
-  outcome-length : (x : Outcome) → Kept (onOutcome book x part last)
+  outcome-length : (x : Outcome) → Kept (onOutcome book x own)
   unfolding onOutcome
   outcome-length x =
       if-cases Kept _ _ _ (λ _. refl) λ _.
-      if-cases Kept _ _ _ (λ _. refl) λ _. reported-length part (x .stamp) (x .id) (x .state) (x .error)
+      if-cases Kept _ _ _ (λ _. refl) λ _. reported-length (own .part) (x .stamp) (x .id) (x .state) (x .error)
 
-  pick-length : Kept (onPick book part last)
+  pick-length : Kept (onPick book own)
   unfolding onPick
   pick-length =
       if-cases Kept _ _ _ (λ _. refl) λ _.
-      found-cases Kept (nextPlace part) (λ k. keeping (A.picked 0 (recordAt k part)) part last) (keeping (refusedPick 11) part last) (λ _ _. refl) (λ _. refl)
+      found-cases Kept (nextPlace (own .part)) (λ k. keeping (picked k (recordAt k (own .part))) own) (keeping (numbered 11) own) (λ _ _. refl) (λ _. refl)
 
 pub keeps : Keeps centre
 unfolding act
-keeps book a (taken entry x) part last l = bound-length _ part last _ x ∙ l
-keeps book a (reported x) part last l = outcome-length _ part last x ∙ l
-keeps book a picked part last l = pick-length _ part last ∙ l
+keeps book a (onSession entry x) own l = bound-length _ own _ x ∙ l
+keeps book a (ofAccount (outcome x)) own l = outcome-length _ own x ∙ l
+keeps book a (ofAccount pick) own l = pick-length _ own ∙ l
 
 pub property3 : Property3
 property3 = record { equal = isolated centre keeps; alone = alone centre keeps }

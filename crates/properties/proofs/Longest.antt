@@ -21,11 +21,11 @@ use Rattle.submit.specs.Submit.{submitted}
 use Rattle.session.specs.State.{entryAt}
 use Rattle.session.specs.declared.Entry.{Entry}
 use Rattle.session.specs.declared.Entry.the-variants.{Closed, Open, Transmitter, Receiver, Ended}
-use Rattle.isolation.specs.Platform.{World, Effect, Front, Ran, octetsOn, step}
+use Rattle.isolation.specs.Platform.{World, Own, Effect, Front, Ran, onEntry, step}
 use Rattle.wellformed.proofs.Cases.{found-cases}
 use Rattle.answers.specs.Answer.{Octets, Answer, repliedTo}
 use Rattle.open.specs.Open.{openBind, openCommand, openFrame, onOpen}
-use Rattle.bound.specs.Bound.{Turn, staying, foundBody, wireState, submitTurn, queryTurn, cancelTurn, replaceTurn, unbindTurn, replying, boundCommand, boundFrame, onBound}
+use Rattle.bound.specs.Bound.{Turn, turning, foundBody, wireState, submitTurn, queryTurn, cancelTurn, replaceTurn, unbindTurn, replying, boundCommand, boundFrame, onBound}
 use Rattle.centre.specs.Centre.{centre, act}
 use Rattle.properties.specs.Property1.{writtenOf}
 use Rattle.properties.specs.Longest.{Longest}
@@ -49,30 +49,30 @@ found-brief r =
 none-brief : length noQuery ≤ 28
 none-brief = omega (arith, queryBody-length Empty [] 0 0, idText-within Empty)
 
-module _ (transmitter : Bool) (book stamp body part : List ℕ) (last : ℕ) where
-  query-brief : Brief (queryTurn transmitter book body part last)
+module _ (transmitter : Bool) (book stamp body : List ℕ) (own : Own) where
+  query-brief : Brief (queryTurn transmitter book body own)
   unfolding queryTurn Brief
   query-brief =
-      let q = queried book body part in
+      let q = queried book body (own .part) in
       if-cases Brief _ _ _
-      (λ _. found-cases Brief (q .place) (λ k. staying (q .status) (foundBody (recordAt k part)) part last) (staying (q .status) noQuery part last)
-      (λ k _. found-brief (recordAt k part)) (λ _. none-brief))
+      (λ _. found-cases Brief (q .place) (λ k. turning (q .status) (foundBody (recordAt k (own .part))) own) (turning (q .status) noQuery own)
+      (λ k _. found-brief (recordAt k (own .part))) (λ _. none-brief))
       (λ _. none-brief)
 
-  submit-brief : Brief (submitTurn transmitter book body part last)
+  submit-brief : Brief (submitTurn transmitter book body own)
   unfolding submitTurn Brief
   submit-brief =
-      if-cases Brief _ _ _ (λ _. omega (arith, idText-within (submitted book body part last .id))) (λ _. omega (arith, idText-within Empty))
+      if-cases Brief _ _ _ (λ _. omega (arith, idText-within (submitted book body (own .part) (own .last) .id))) (λ _. omega (arith, idText-within Empty))
 
-  cancel-brief : Brief (cancelTurn transmitter book stamp body part last)
+  cancel-brief : Brief (cancelTurn transmitter book stamp body own)
   unfolding cancelTurn Brief
   cancel-brief = if-cases Brief _ _ _ (λ _. omega arith) (λ _. omega arith)
 
-  replace-brief : Brief (replaceTurn transmitter book body part last)
+  replace-brief : Brief (replaceTurn transmitter book body own)
   unfolding replaceTurn Brief
   replace-brief = if-cases Brief _ _ _ (λ _. omega arith) (λ _. omega arith)
 
-  unbind-brief : Brief (unbindTurn body part last)
+  unbind-brief : Brief (unbindTurn body own)
   unfolding unbindTurn Brief
   unbind-brief = omega arith
 
@@ -88,19 +88,19 @@ short-turn : (n id sequence : ℕ) (t : Turn) (space : List ℕ) → Brief t →
 unfolding replying Brief
 short-turn n id sequence t space h = short-reply n id (t .status) sequence (t .body) space h
 
-short-bound : (transmitter : Bool) (book stamp : List ℕ) (n sequence : ℕ) (body space part : List ℕ) (last : ℕ) (command : Command)
-    → ShortEffect (boundCommand transmitter book stamp n sequence body space part last command)
+short-bound : (transmitter : Bool) (book stamp : List ℕ) (n sequence : ℕ) (body space : List ℕ) (own : Own) (command : Command)
+    → ShortEffect (boundCommand transmitter book stamp n sequence body space own command)
 unfolding Brief
-short-bound transmitter book stamp n sequence body space part last BindReceiver = short-turn n _ sequence _ space (omega arith)
-short-bound transmitter book stamp n sequence body space part last BindTransmitter = short-turn n _ sequence _ space (omega arith)
-short-bound transmitter book stamp n sequence body space part last QuerySm = short-turn n _ sequence _ space (query-brief transmitter book stamp body part last)
-short-bound transmitter book stamp n sequence body space part last SubmitSm = short-turn n _ sequence _ space (submit-brief transmitter book stamp body part last)
-short-bound transmitter book stamp n sequence body space part last Unbind = short-turn n _ sequence _ space (unbind-brief transmitter book stamp body part last)
-short-bound transmitter book stamp n sequence body space part last ReplaceSm = short-turn n _ sequence _ space (replace-brief transmitter book stamp body part last)
-short-bound transmitter book stamp n sequence body space part last CancelSm = short-turn n _ sequence _ space (cancel-brief transmitter book stamp body part last)
-short-bound transmitter book stamp n sequence body space part last EnquireLink = short-turn n _ sequence _ space (omega arith)
-short-bound transmitter book stamp n sequence body space part last Response = omega arith
-short-bound transmitter book stamp n sequence body space part last Unknown = short-turn n _ sequence _ space (omega arith)
+short-bound transmitter book stamp n sequence body space own BindReceiver = short-turn n _ sequence _ space (omega arith)
+short-bound transmitter book stamp n sequence body space own BindTransmitter = short-turn n _ sequence _ space (omega arith)
+short-bound transmitter book stamp n sequence body space own QuerySm = short-turn n _ sequence _ space (query-brief transmitter book stamp body own)
+short-bound transmitter book stamp n sequence body space own SubmitSm = short-turn n _ sequence _ space (submit-brief transmitter book stamp body own)
+short-bound transmitter book stamp n sequence body space own Unbind = short-turn n _ sequence _ space (unbind-brief transmitter book stamp body own)
+short-bound transmitter book stamp n sequence body space own ReplaceSm = short-turn n _ sequence _ space (replace-brief transmitter book stamp body own)
+short-bound transmitter book stamp n sequence body space own CancelSm = short-turn n _ sequence _ space (cancel-brief transmitter book stamp body own)
+short-bound transmitter book stamp n sequence body space own EnquireLink = short-turn n _ sequence _ space (omega arith)
+short-bound transmitter book stamp n sequence body space own Response = omega arith
+short-bound transmitter book stamp n sequence body space own Unknown = short-turn n _ sequence _ space (omega arith)
 
 short-open : (book : List ℕ) (n sequence : ℕ) (body space : List ℕ) (command : Command) → ShortFront (openCommand book n sequence body space command)
 unfolding openBind
@@ -120,15 +120,15 @@ open-frame book octets space More = omega arith
 open-frame book octets space Malformed = short-reply 4 _ _ 0 _ space (omega arith)
 open-frame book octets space (Whole n) = short-open book _ _ _ space (commandOf _)
 
-bound-frame : (transmitter : Bool) (book octets stamp space part : List ℕ) (last : ℕ) (frame : Frame) → ShortEffect (boundFrame transmitter book octets stamp space frame part last)
-bound-frame transmitter book octets stamp space part last More = omega arith
-bound-frame transmitter book octets stamp space part last Malformed = short-reply 4 _ _ 0 _ space (omega arith)
-bound-frame transmitter book octets stamp space part last (Whole n) = short-bound transmitter book stamp _ _ _ space part last (commandOf _)
+bound-frame : (transmitter : Bool) (book octets stamp space : List ℕ) (own : Own) (frame : Frame) → ShortEffect (boundFrame transmitter book octets stamp space frame own)
+bound-frame transmitter book octets stamp space own More = omega arith
+bound-frame transmitter book octets stamp space own Malformed = short-reply 4 _ _ 0 _ space (omega arith)
+bound-frame transmitter book octets stamp space own (Whole n) = short-bound transmitter book stamp _ _ _ space own (commandOf _)
 
-short-asked : (transmitter : Bool) (book : List ℕ) (x : Octets) (part : List ℕ) (last : ℕ) → ShortEffect (onBound transmitter book x part last)
+short-asked : (transmitter : Bool) (book : List ℕ) (x : Octets) (own : Own) → ShortEffect (onBound transmitter book x own)
 unfolding onBound
-short-asked transmitter book x part last =
-    if-cases ShortEffect _ _ _ (λ _. bound-frame transmitter book (x .octets) (x .stamp) (x .space) part last (frameOf (x .octets))) (λ _. omega arith)
+short-asked transmitter book x own =
+    if-cases ShortEffect _ _ _ (λ _. bound-frame transmitter book (x .octets) (x .stamp) (x .space) own (frameOf (x .octets))) (λ _. omega arith)
 
 -- ---- a step
 
@@ -136,12 +136,12 @@ abbrev ShortRan : Ran Answer → Type 0
 ShortRan r = Short (r .answer)
 
 module _ (book : List ℕ) (w : World) (s : ℕ) (x : Octets) where
-  short-on : (e : Entry) → ShortRan (octetsOn centre book w s x e)
+  short-on : (e : Entry) → ShortRan (onEntry centre book w s x e)
   unfolding onOpen act
   short-on Closed = omega arith
   short-on Open = open-frame book (x .octets) (x .space) (frameOf (x .octets))
-  short-on (Transmitter a) = if-cases ShortRan _ _ _ (λ _. short-asked _ _ x _ _) (λ _. omega arith)
-  short-on (Receiver a) = if-cases ShortRan _ _ _ (λ _. short-asked _ _ x _ _) (λ _. omega arith)
+  short-on (Transmitter a) = if-cases ShortRan _ _ _ (λ _. short-asked _ _ x _) (λ _. omega arith)
+  short-on (Receiver a) = if-cases ShortRan _ _ _ (λ _. short-asked _ _ x _) (λ _. omega arith)
   short-on Ended = omega arith
 
 pub longest : Longest

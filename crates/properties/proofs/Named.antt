@@ -5,7 +5,7 @@ use mathlib.Core.List.{List}
 use Prim.Native.Nat.{ℕ, _<_}
 use Rattle.octets.proofs.StretchLaws.{and-left}
 use Rattle.forms.specs.Field.{textOf}
-use Rattle.records.specs.Book.{bookRecordSize, bookRecord, usedOk, sameName, systemOf, kindOf, named}
+use Rattle.records.specs.Book.{bookRecordSize, bookRecord, usedOk, sameName, systemOf, systemTypeOf, named}
 use Rattle.store.specs.Places.{Below}
 use Rattle.store.specs.Search.{namedPlace}
 use Rattle.store.specs.declared.places.Found.the-variants.{At}
@@ -19,5 +19,5 @@ named-used system kind book a e =
     let r = bookRecord a book in
     let system′ = sameName (textOf (systemOf r)) system in (
       subst (Below 8) e (lowest-below bookRecordSize 8 (named system kind) (λ r. 0) book),
-      and-left (usedOk r) system′ (and-left (usedOk r && system′) (sameName (textOf (kindOf r)) kind) (row-passes (named system kind) (λ r. 0) bookRecordSize 8 a book e)),
+      and-left (usedOk r) system′ (and-left (usedOk r && system′) (sameName (textOf (systemTypeOf r)) kind) (row-passes (named system kind) (λ r. 0) bookRecordSize 8 a book e)),
     )

@@ -13,22 +13,20 @@ use Rattle.wire.specs.declared.frame.Frame.{Frame}
 use Rattle.wire.specs.declared.frame.Frame.the-variants.{More, Malformed, Whole}
 use Rattle.records.specs.Book.{bookRecord}
 use Rattle.store.specs.Account.{accountOk}
-use Rattle.store.specs.Places.{recordAt, onPlace}
-use Rattle.store.specs.Search.{waiting, placeOf, nextPlace}
-use Rattle.changes.specs.Change.{finished}
-use Rattle.account.specs.Cancel.{Changed, changed}
+use Rattle.store.specs.Places.{recordAt}
+use Rattle.store.specs.Search.{nextPlace}
 use Rattle.account.specs.Outcome.{reported}
 use Rattle.session.specs.State.{sessionCount, accountCount, entryAt, lastAt, opened, openedFrom, closed}
 use Rattle.session.specs.declared.Entry.{Entry}
 use Rattle.session.specs.declared.Entry.the-variants.{Closed, Open, Transmitter, Receiver, Ended}
 use Rattle.session.specs.declared.Moved.{Moved}
-use Rattle.isolation.specs.Platform.{World, partOf, opens, closes, octets, outcome, picks, Effect, Ran, octetsOf, octetsOn, step}
+use Rattle.isolation.specs.Platform.{World, partOf, Own, opens, closes, on, of, Effect, Ran, onAccount, onEntry, step}
 use Rattle.isolation.specs.History.{boundTo}
-use Rattle.answers.specs.Answer.{Octets, Outcome, Answer, picked, refusedPick, numberOf}
+use Rattle.answers.specs.Answer.{Octets, Outcome, outcome, pick, Answer, numbered, picked, numberOf}
 use Rattle.open.specs.Open.{openFrame, onOpen}
 use Rattle.bound.specs.Bound.{Turn, replying, keeping, isTransmitter, onBound}
 use Rattle.centre.specs.Operations.{onOutcome, onPick}
-use Rattle.centre.specs.Centre.{centre, act, octetsEarly, outcomeEarly, pickEarly, earlyOctets, earlyOutcome, earlyPick}
+use Rattle.centre.specs.Centre.{centre, act, octetsEarly, outcomeEarly, pickEarly, earlyOctets}
 use Rattle.wellformed.proofs.Cases.{found-cases}
 use Rattle.properties.specs.Property1.{wellFormed}
 use Rattle.properties.proofs.BoundCases.{bound-cases}
@@ -43,34 +41,26 @@ module _ (N : ℕ → Type 0) where
 
   -- ---- an account asked
 
-  reported-number : (stamp : List ℕ) (id state error : ℕ) (part : List ℕ) → N 0 → N 10 → N (reported stamp id state error part .status)
-  unfolding reported
-  reported-number stamp id state error part done none =
-      let C : Changed → Type 0 = λ c. N (c .status) in
-      found-cases C (placeOf id part)
-      (λ k. if waiting (recordAt k part) then changed 0 (onPlace (finished state error stamp) k part) else changed 10 part) (changed 10 part)
-      (λ k _. if-cases C (waiting (recordAt k part)) _ _ (λ _. done) (λ _. none)) (λ _. none)
-
-  module _ (book part : List ℕ) (last : ℕ) (done : N 0) (ill : accountOk book last part ≡ false → N 9) where
-    bound-number : (transmitter : Bool) (x : Octets) → N 1 → Effects (onBound transmitter book x part last)
+  module _ (book : List ℕ) (own : Own) (done : N 0) (ill : accountOk book (own .last) (own .part) ≡ false → N 9) where
+    bound-number : (transmitter : Bool) (x : Octets) → N 1 → Effects (onBound transmitter book x own)
     unfolding replying
     bound-number transmitter x more =
-        bound-cases book x part last Effects (λ (t : Turn). Unit) transmitter ill
+        bound-cases book x own Effects (λ (t : Turn). Unit) transmitter ill
         (λ _. record { same = λ _ _ _. tt; submits = λ _. tt; cancels = λ _. tt; replaces = λ _. tt })
         (record { more = more; nak = done; quiet = λ _. done; replies = λ _ _ _ _ _. done })
 
-    outcome-number : (x : Outcome) → N 8 → N 10 → Effects (onOutcome book x part last)
+    outcome-number : (x : Outcome) → N 8 → N 10 → Effects (onOutcome book x own)
     unfolding onOutcome
     outcome-number x wrong none =
         if-cases Effects _ _ _ (λ _. wrong) λ _.
-        if-cases Effects (not (accountOk book last part)) _ _ (λ t. ill (not-true (accountOk book last part) t)) λ _.
-        reported-number (x .stamp) (x .id) (x .state) (x .error) part done none
+        if-cases Effects (not (accountOk book (own .last) (own .part))) _ _ (λ t. ill (not-true (accountOk book (own .last) (own .part)) t)) λ _.
+        if-cases N (reported (x .stamp) (x .id) (x .state) (x .error) (own .part) .waited) _ _ (λ _. done) (λ _. none)
 
-    pick-number : N 11 → Effects (onPick book part last)
+    pick-number : N 11 → Effects (onPick book own)
     unfolding onPick
     pick-number none =
-        if-cases Effects (not (accountOk book last part)) _ _ (λ t. ill (not-true (accountOk book last part) t)) λ _.
-        found-cases Effects (nextPlace part) (λ k. keeping (picked 0 (recordAt k part)) part last) (keeping (refusedPick 11) part last)
+        if-cases Effects (not (accountOk book (own .last) (own .part))) _ _ (λ t. ill (not-true (accountOk book (own .last) (own .part)) t)) λ _.
+        found-cases Effects (nextPlace (own .part)) (λ k. keeping (picked k (recordAt k (own .part))) own) (keeping (numbered 11) own)
         (λ _ _. done) (λ _. none)
 
   -- ---- steps
@@ -105,38 +95,38 @@ module _ (N : ℕ → Type 0) where
       front-number Malformed = done
       front-number (Whole n) = subst N (sym (pdu-zero book (take n (x .octets)) (x .space))) done
 
-      octetsOf-number : (e : Entry) (a : ℕ) → (Ill a → N 9) → Gives (octetsOf centre book w s x e a)
+      onAccount-number : (e : Entry) (a : ℕ) → (Ill a → N 9) → Gives (onAccount centre book w s x e a)
       unfolding act
-      octetsOf-number e a nine =
-          if-cases Gives (ltb a accountCount) _ _ (λ _. bound-number _ _ _ done (ill-formed a nine) (isTransmitter e) x more)
+      onAccount-number e a nine =
+          if-cases Gives (ltb a accountCount) _ _ (λ _. bound-number _ _ done (ill-formed a nine) (isTransmitter e) x more)
           (λ t. nine (λ below _. false≢true (sym t ∙ lt-ltb a accountCount below)))
 
-      octetsOn-number : (e : Entry) → N 6 → ((a : ℕ) → boundTo a e ≡ true → Ill a → N 9) → Gives (octetsOn centre book w s x e)
+      onEntry-number : (e : Entry) → N 6 → ((a : ℕ) → boundTo a e ≡ true → Ill a → N 9) → Gives (onEntry centre book w s x e)
       unfolding onOpen
-      octetsOn-number Closed unfit nine = unfit
-      octetsOn-number Open unfit nine = front-number (frameOf (x .octets))
-      octetsOn-number (Transmitter a) unfit nine = octetsOf-number (Transmitter a) a (nine a (eq-eqb a a refl))
-      octetsOn-number (Receiver a) unfit nine = octetsOf-number (Receiver a) a (nine a (eq-eqb a a refl))
-      octetsOn-number Ended unfit nine = unfit
+      onEntry-number Closed unfit nine = unfit
+      onEntry-number Open unfit nine = front-number (frameOf (x .octets))
+      onEntry-number (Transmitter a) unfit nine = onAccount-number (Transmitter a) a (nine a (eq-eqb a a refl))
+      onEntry-number (Receiver a) unfit nine = onAccount-number (Receiver a) a (nine a (eq-eqb a a refl))
+      onEntry-number Ended unfit nine = unfit
 
       pub octets-number : N 2 → N 3 → N 4 → N 5 → N 6 → ((a : ℕ) → boundTo a (entryAt (w .state) s) ≡ true → Ill a → N 9)
-          → Gives (step centre book w (octets s x))
+          → Gives (step centre book w (on s x))
       unfolding step octetsEarly
       octets-number above sizes small stamp unfit nine =
           if-cases Gives (leb sessionCount s) _ _ (λ _. above) λ _.
-          if-cases Gives (eqb (earlyOctets book (length (w .table)) x) 0) _ _ (λ _. octetsOn-number (entryAt (w .state) s) unfit nine) λ _.
+          if-cases Gives (eqb (earlyOctets book (length (w .table)) x) 0) _ _ (λ _. onEntry-number (entryAt (w .state) s) unfit nine) λ _.
           if-cases N _ _ _ (λ _. sizes) λ _. if-cases N _ _ _ (λ _. small) λ _. if-cases N _ _ _ (λ _. stamp) (λ _. done)
 
-    pub outcome-step : (a : ℕ) (x : Outcome) → N 0 → N 3 → N 5 → N 7 → N 8 → (Ill a → N 9) → N 10 → Gives (step centre book w (outcome a x))
+    pub outcome-step : (a : ℕ) (x : Outcome) → N 0 → N 3 → N 5 → N 7 → N 8 → (Ill a → N 9) → N 10 → Gives (step centre book w (of a (outcome x)))
     unfolding step act outcomeEarly
     outcome-step a x done sizes stamp above wrong nine none =
-        if-cases Gives (eqb (earlyOutcome book (length (w .table)) x) 0) _ _
-        (λ _. if-cases Gives (ltb a accountCount) _ _ (λ _. outcome-number _ _ _ done (ill-formed a nine) x wrong none) (λ _. above)) λ _.
+        if-cases Gives (eqb (outcomeEarly (length book) (length (w .table)) (x .stamp)) 0) _ _
+        (λ _. if-cases Gives (ltb a accountCount) _ _ (λ _. outcome-number _ _ done (ill-formed a nine) x wrong none) (λ _. above)) λ _.
         if-cases N _ _ _ (λ _. sizes) λ _. if-cases N _ _ _ (λ _. stamp) (λ _. done)
 
-    pub pick-step : (a : ℕ) → N 0 → N 3 → N 7 → (Ill a → N 9) → N 11 → Gives (step centre book w (picks a))
+    pub pick-step : (a : ℕ) → N 0 → N 3 → N 7 → (Ill a → N 9) → N 11 → Gives (step centre book w (of a pick))
     unfolding step act pickEarly
     pick-step a done sizes above nine none =
-        if-cases Gives (eqb (earlyPick book (length (w .table))) 0) _ _
-        (λ _. if-cases Gives (ltb a accountCount) _ _ (λ _. pick-number _ _ _ done (ill-formed a nine) none) (λ _. above)) λ _.
+        if-cases Gives (eqb (pickEarly (length book) (length (w .table))) 0) _ _
+        (λ _. if-cases Gives (ltb a accountCount) _ _ (λ _. pick-number _ _ done (ill-formed a nine) none) (λ _. above)) λ _.
         if-cases N _ _ _ (λ _. sizes) (λ _. done)

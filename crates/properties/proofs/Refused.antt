@@ -12,12 +12,12 @@ use Rattle.wire.specs.declared.frame.Frame.{Frame}
 use Rattle.wire.specs.declared.frame.Frame.the-variants.{More, Malformed, Whole}
 use Rattle.records.specs.Book.{bookRecord}
 use Rattle.account.specs.Outcome.{reported}
-use Rattle.session.specs.State.{sessionCount, accountCount, entryAt, lastAt, opened, openedFrom, closed}
+use Rattle.session.specs.State.{sessionCount, accountCount, entryAt, opened, openedFrom, closed}
 use Rattle.session.specs.declared.Entry.{Entry}
 use Rattle.session.specs.declared.Entry.the-variants.{Closed, Open, Transmitter, Receiver, Ended}
 use Rattle.session.specs.declared.Moved.{Moved}
-use Rattle.isolation.specs.Platform.{World, partOf, Step, opens, closes, octets, outcome, picks, Effect, Ran, unchanged, put, putEntry, move, settle, octetsOf, octetsOn, octetsAfter, step}
-use Rattle.answers.specs.Answer.{Octets, Outcome, Answer, numbered, numberOf}
+use Rattle.isolation.specs.Platform.{World, owning, ownOf, putEntry, Step, opens, closes, on, of, Effect, Ran, unchanged, put, move, settle, onAccount, onEntry, onAfter, step}
+use Rattle.answers.specs.Answer.{Octets, Outcome, Question, outcome, pick, Answer, numbered, numberOf}
 use Rattle.answers.specs.Answer as A
 use Rattle.open.specs.Open.{openBind, openCommand, openPdu, openFrame, onOpen}
 use Rattle.bound.specs.Bound.{Turn, replying, keeping, isTransmitter}
@@ -49,7 +49,7 @@ pdu-zero book pdu space =
 
 module _ (w : World) where
   -- what is shown of a step and what it gives
-  abbrev Refuses : Step Octets Outcome → Ran Answer → Type 0
+  abbrev Refuses : Step Octets Question → Ran Answer → Type 0
   Refuses st r = (numberOf (r .answer) ≡ 0 → ⊥) → r ≡ unchanged centre w (refusal st (numberOf (r .answer)))
 
   refused-opened : (s : ℕ) (e : Entry) → Refuses (opens s) (move centre w (openedFrom (w .state) s e))
@@ -61,23 +61,23 @@ module _ (w : World) where
 
   module _ (book : List ℕ) (s : ℕ) (x : Octets) where
     refused-front : entryAt (w .state) s ≡ Open → (frame : Frame) → (let f = openFrame book (x .octets) (x .space) frame in
-        Refuses (octets s x) (unchanged centre (putEntry centre w s (f .after)) (f .answer)))
+        Refuses (on s x) (record { answer = f .answer; world = putEntry w s (f .after) }))
     refused-front h More ne = ap (λ (v : World). unchanged centre v (A.taken 1 0 0 (x .space))) (entry-back w s Open h)
     refused-front h Malformed ne = absurd (ne refl)
     refused-front h (Whole n) ne = absurd (ne (pdu-zero book (take n (x .octets)) (x .space)))
 
     -- an account asked on a session that keeps its entry, and left as it was
     settled-back : (e : Entry) → entryAt (w .state) s ≡ e → (a : ℕ) (answer : Answer)
-        → settle centre w s e a (keeping answer (partOf a (w .table)) (lastAt (w .state) a)) ≡ unchanged centre w answer
+        → settle centre w s e a (keeping answer (ownOf w a)) ≡ unchanged centre w answer
     unfolding if_then_else_
     settled-back e h a answer =
-        account-back (putEntry centre w s e) a answer ∙ ap (λ (v : World). unchanged centre v answer) (entry-back w s e h)
+        account-back (putEntry w s e) a answer ∙ ap (λ (v : World). unchanged centre v answer) (entry-back w s e h)
 
-    refused-octetsOf : (e : Entry) → entryAt (w .state) s ≡ e → (a : ℕ) → Refuses (octets s x) (octetsOf centre book w s x e a)
+    refused-onAccount : (e : Entry) → entryAt (w .state) s ≡ e → (a : ℕ) → Refuses (on s x) (onAccount centre book w s x e a)
     unfolding act replying
-    refused-octetsOf e h a =
-        if-cases (Refuses (octets s x)) (ltb a accountCount) _ _
-        (λ _. bound-cases (bookRecord a book) x (partOf a (w .table)) (lastAt (w .state) a) (λ (r : Effect Answer). Refuses (octets s x) (settle centre w s e a r))
+    refused-onAccount e h a =
+        if-cases (Refuses (on s x)) (ltb a accountCount) _ _
+        (λ _. bound-cases (bookRecord a book) x (ownOf w a) (λ (r : Effect Answer). Refuses (on s x) (settle centre w s e a r))
         (λ (t : Turn). Unit) (isTransmitter e)
         (λ _ ne. settled-back e h a (A.refusedOctets 9 x))
         (λ _. record { same = λ _ _ _. tt; submits = λ _. tt; cancels = λ _. tt; replaces = λ _. tt })
@@ -89,41 +89,40 @@ module _ (w : World) where
         }))
         (λ _ ne. refl)
 
-    refused-octetsOn : (e : Entry) → entryAt (w .state) s ≡ e → Refuses (octets s x) (octetsOn centre book w s x e)
+    refused-onEntry : (e : Entry) → entryAt (w .state) s ≡ e → Refuses (on s x) (onEntry centre book w s x e)
     unfolding onOpen
-    refused-octetsOn Closed h ne = refl
-    refused-octetsOn Open h ne = refused-front h (frameOf (x .octets)) ne
-    refused-octetsOn (Transmitter a) h ne = refused-octetsOf (Transmitter a) h a ne
-    refused-octetsOn (Receiver a) h ne = refused-octetsOf (Receiver a) h a ne
-    refused-octetsOn Ended h ne = refl
+    refused-onEntry Closed h ne = refl
+    refused-onEntry Open h ne = refused-front h (frameOf (x .octets)) ne
+    refused-onEntry (Transmitter a) h ne = refused-onAccount (Transmitter a) h a ne
+    refused-onEntry (Receiver a) h ne = refused-onAccount (Receiver a) h a ne
+    refused-onEntry Ended h ne = refl
 
-    refused-octetsAfter : (n : ℕ) → Refuses (octets s x) (octetsAfter centre n book w s x)
-    refused-octetsAfter n = if-cases (Refuses (octets s x)) (eqb n 0) _ _ (λ _. refused-octetsOn (entryAt (w .state) s) refl) (λ _ ne. refl)
+    refused-onAfter : (n : ℕ) → Refuses (on s x) (onAfter centre n book w s x)
+    refused-onAfter n = if-cases (Refuses (on s x)) (eqb n 0) _ _ (λ _. refused-onEntry (entryAt (w .state) s) refl) (λ _ ne. refl)
 
-  refused-outcome : (book : List ℕ) (a : ℕ) (x : Outcome)
-      → Refuses (outcome a x) (put centre w a (onOutcome book x (partOf a (w .table)) (lastAt (w .state) a)))
+  refused-outcome : (book : List ℕ) (a : ℕ) (x : Outcome) → Refuses (of a (outcome x)) (put centre w a (onOutcome book x (ownOf w a)))
   unfolding onOutcome
   refused-outcome book a x =
-      let mine = partOf a (w .table) in
-      let last = lastAt (w .state) a in
+      let mine = ownOf w a .part in
       let c = reported (x .stamp) (x .id) (x .state) (x .error) mine in
-      let P : Effect Answer → Type 0 = λ e. Refuses (outcome a x) (put centre w a e) in
+      let P : Effect Answer → Type 0 = λ e. Refuses (of a (outcome x)) (put centre w a e) in
       if-cases P _ _ _ (λ _ ne. account-back w a (numbered 8)) λ _.
-      if-cases P _ _ _ (λ _ ne. account-back w a (numbered 9)) λ _ ne.
-      ap (λ (p : List ℕ). put centre w a (keeping (numbered (c .status)) p last)) (reported-refused mine (x .stamp) (x .id) (x .state) (x .error) ne)
-      ∙ account-back w a (numbered (c .status))
+      if-cases P _ _ _ (λ _ ne. account-back w a (numbered 9)) λ _.
+      if-cases (λ (n : ℕ). P (keeping (numbered n) (owning (c .part) (ownOf w a .last)))) (c .waited) 0 10 (λ _ ne. absurd (ne refl)) λ t _.
+      ap (λ (p : List ℕ). put centre w a (keeping (numbered 10) (owning p (ownOf w a .last)))) (reported-refused mine (x .stamp) (x .id) (x .state) (x .error) t)
+      ∙ account-back w a (numbered 10)
 
-  pub refused-step : (book : List ℕ) (st : Step Octets Outcome) → Refuses st (step centre book w st)
+  pub refused-step : (book : List ℕ) (st : Step Octets Question) → Refuses st (step centre book w st)
   unfolding step act opened closed
   refused-step book (opens s) =
       if-cases (λ (r : Moved). Refuses (opens s) (move centre w r)) (leb sessionCount s) _ _ (λ _ ne. refl) (λ _. refused-opened s (entryAt (w .state) s))
   refused-step book (closes s) =
       if-cases (λ (r : Moved). Refuses (closes s) (move centre w r)) (leb sessionCount s) _ _ (λ _ ne. refl) (λ _ ne. absurd (ne refl))
-  refused-step book (octets s x) =
-      if-cases (Refuses (octets s x)) (leb sessionCount s) _ _ (λ _ ne. refl) (λ _. refused-octetsAfter book s x (earlyOctets book (length (w .table)) x))
-  refused-step book (outcome a x) =
-      let P = Refuses (outcome a x) in
+  refused-step book (on s x) =
+      if-cases (Refuses (on s x)) (leb sessionCount s) _ _ (λ _ ne. refl) (λ _. refused-onAfter book s x (earlyOctets book (length (w .table)) x))
+  refused-step book (of a (outcome x)) =
+      let P = Refuses (of a (outcome x)) in
       if-cases P _ _ _ (λ _. if-cases P (ltb a accountCount) _ _ (λ _. refused-outcome _ a x) (λ _ ne. refl)) (λ _ ne. refl)
-  refused-step book (picks a) =
-      let P = Refuses (picks a) in
-      if-cases P _ _ _ (λ _. if-cases P (ltb a accountCount) _ _ (λ _. pick-back _ w a P (λ _ ne. refl) (λ _ ne. absurd (ne refl))) (λ _ ne. refl)) (λ _ ne. refl)
+  refused-step book (of a pick) =
+      let P = Refuses (of a pick) in
+      if-cases P _ _ _ (λ _. if-cases P (ltb a accountCount) _ _ (λ _. pick-back _ w a P (λ _ _ ne. refl) (λ _ _ ne. absurd (ne refl))) (λ _ ne. refl)) (λ _ ne. refl)

@@ -11,10 +11,10 @@ use Rattle.octets.proofs.StretchLaws.{if-cases}
 use Rattle.octets.proofs.PatchLaws.{patch-none}
 use Rattle.answers.specs.Reply.{header, reply, over}
 use Rattle.records.specs.Book.{bookRecord}
-use Rattle.session.specs.State.{sessionCount, accountCount, entryAt, lastAt}
+use Rattle.session.specs.State.{sessionCount, accountCount, entryAt}
 use Rattle.session.specs.declared.Entry.{Entry}
 use Rattle.session.specs.declared.Entry.the-variants.{Closed, Open, Transmitter, Receiver, Ended}
-use Rattle.isolation.specs.Platform.{World, partSize, partOf, putPart, octets, Effect, Ran, settle, octetsOf, octetsOn, step}
+use Rattle.isolation.specs.Platform.{World, partSize, putPart, Own, ownOf, on, Effect, Ran, settle, onAccount, onEntry, step}
 use Rattle.answers.specs.Answer.{Octets, Answer, repliedTo}
 use Rattle.bound.specs.Bound.{Turn, replying, isTransmitter}
 use Rattle.centre.specs.Centre.{centre, act}
@@ -35,49 +35,48 @@ module _ (book : List ℕ) (w : World) (s : ℕ) (x : Octets) where
   module _ (e : Entry) (a : ℕ) where
     -- a turn with a status leaves the account as it was
     abbrev Same : Turn → Type 0
-    Same t = (t .status ≡ 0 → ⊥) → (t .part ≡ partOf a (w .table)) × (t .last ≡ lastAt (w .state) a)
+    Same t = (t .status ≡ 0 → ⊥) → (t .own .part ≡ ownOf w a .part) × (t .own .last ≡ ownOf w a .last)
 
-    put-same : (mine : List ℕ) (last : ℕ) → mine ≡ partOf a (w .table) → last ≡ lastAt (w .state) a
-        → (putPart a mine (w .table) ≡ w .table) × (set (w .state .lasts) a last ≡ w .state .lasts)
-    put-same mine last p l = (
+    put-same : (o : Own) → o .part ≡ ownOf w a .part → o .last ≡ ownOf w a .last
+        → (putPart a (o .part) (w .table) ≡ w .table) × (set (w .state .lasts) a (o .last) ≡ w .state .lasts)
+    put-same o p l = (
       ap (patch (w .table) (partSize * a)) p ∙ patch-none (w .table) (partSize * a) partSize,
       ap (set (w .state .lasts) a) l ∙ set-getD (w .state .lasts) a 0,
     )
 
-    kept-octetsOf : Kept (octetsOf centre book w s x e a)
+    kept-onAccount : Kept (onAccount centre book w s x e a)
     unfolding act replying
-    kept-octetsOf =
-        let mine = partOf a (w .table) in
-        let last = lastAt (w .state) a in
+    kept-onAccount =
+        let own = ownOf w a in
         let entry = bookRecord a book in
         if-cases Kept (ltb a accountCount) _ _
-        (λ _. bound-cases entry x mine last (λ (r : Effect Answer). Kept (settle centre w s e a r)) Same (isTransmitter e)
-        (λ _ _ _. put-same mine last refl refl)
+        (λ _. bound-cases entry x own (λ (r : Effect Answer). Kept (settle centre w s e a r)) Same (isTransmitter e)
+        (λ _ _ _. put-same own refl refl)
         (λ _. record {
           same = λ _ _ _ _. (refl, refl);
-          submits = λ body. submitted-refused entry body mine last;
-          cancels = λ body ne. (cancelled-refused mine entry (x .stamp) body ne, refl);
-          replaces = λ body ne. (replaced-refused mine entry body ne, refl);
+          submits = λ body. submitted-refused entry body (own .part) (own .last);
+          cancels = λ body ne. (cancelled-refused (own .part) entry (x .stamp) body ne, refl);
+          replaces = λ body ne. (replaced-refused (own .part) entry body ne, refl);
         })
         (record {
-          more = λ _ _. put-same mine last refl refl;
-          nak = λ _ _. put-same mine last refl refl;
-          quiet = λ _ _ _. put-same mine last refl refl;
+          more = λ _ _. put-same own refl refl;
+          nak = λ _ _. put-same own refl refl;
+          quiet = λ _ _ _. put-same own refl refl;
           replies = λ n id sequence t q _ ne.
               let kept = q (λ z. ne (status-zero n id (t .status) sequence (t .body) (x .space) z)) in
-              put-same _ _ (kept .0) (kept .1);
+              put-same (t .own) (kept .0) (kept .1);
         }))
         (λ _ _ _. (refl, refl))
 
-  kept-octetsOn : (e : Entry) → Kept (octetsOn centre book w s x e)
-  kept-octetsOn Closed = λ _ _. (refl, refl)
-  kept-octetsOn Open = λ _ _. (refl, refl)
-  kept-octetsOn (Transmitter a) = kept-octetsOf (Transmitter a) a
-  kept-octetsOn (Receiver a) = kept-octetsOf (Receiver a) a
-  kept-octetsOn Ended = λ _ _. (refl, refl)
+  kept-onEntry : (e : Entry) → Kept (onEntry centre book w s x e)
+  kept-onEntry Closed = λ _ _. (refl, refl)
+  kept-onEntry Open = λ _ _. (refl, refl)
+  kept-onEntry (Transmitter a) = kept-onAccount (Transmitter a) a
+  kept-onEntry (Receiver a) = kept-onAccount (Receiver a) a
+  kept-onEntry Ended = λ _ _. (refl, refl)
 
-  pub kept-step : Kept (step centre book w (octets s x))
+  pub kept-step : Kept (step centre book w (on s x))
   unfolding step
   kept-step =
       if-cases Kept (leb sessionCount s) _ _ (λ _ _ _. (refl, refl)) λ _.
-      if-cases Kept _ _ _ (λ _. kept-octetsOn (entryAt (w .state) s)) (λ _ _ _. (refl, refl))
+      if-cases Kept _ _ _ (λ _. kept-onEntry (entryAt (w .state) s)) (λ _ _ _. (refl, refl))

@@ -5,21 +5,20 @@ use mathlib.Core.Bool.{true}
 use mathlib.Core.List.{List}
 use Rattle.records.specs.Book.{bookRecord, usedOk}
 use Rattle.session.specs.State.{accountCount}
-use Rattle.isolation.specs.Platform.{fresh, Step}
-use Rattle.isolation.specs.Platform as P
+use Rattle.isolation.specs.Platform.{fresh, Step, on, of}
 use Rattle.isolation.specs.History.{after}
-use Rattle.answers.specs.Answer.{Octets, Outcome, numberOf}
+use Rattle.answers.specs.Answer.{Octets, Outcome, Question, outcome, pick, numberOf}
 use Rattle.centre.specs.Centre.{centre, step}
 use Rattle.properties.specs.Property1.{wellFormed}
 
 pub record Healthy : Type 0 where
-  pub stays : (book : List ℕ) (hs : List (Step Octets Outcome)) (a : ℕ) → a < accountCount → usedOk (bookRecord a book) ≡ true
+  pub stays : (book : List ℕ) (hs : List (Step Octets Question)) (a : ℕ) → a < accountCount → usedOk (bookRecord a book) ≡ true
       → wellFormed book (after centre book fresh hs) a
   -- so number 9 never comes from the centre's own writes: never for octets, since a session is only ever bound to such an account, and for an
   -- outcome or a pick only where the book record is at fault
-  pub octets : (book : List ℕ) (hs : List (Step Octets Outcome)) (s : ℕ) (x : Octets)
-      → numberOf (step book (after centre book fresh hs) (P.octets s x) .answer) ≡ 9 → ⊥
-  pub outcome : (book : List ℕ) (hs : List (Step Octets Outcome)) (a : ℕ) (x : Outcome) → a < accountCount → usedOk (bookRecord a book) ≡ true
-      → numberOf (step book (after centre book fresh hs) (P.outcome a x) .answer) ≡ 9 → ⊥
-  pub picks : (book : List ℕ) (hs : List (Step Octets Outcome)) (a : ℕ) → a < accountCount → usedOk (bookRecord a book) ≡ true
-      → numberOf (step book (after centre book fresh hs) (P.picks a) .answer) ≡ 9 → ⊥
+  pub taking : (book : List ℕ) (hs : List (Step Octets Question)) (s : ℕ) (x : Octets)
+      → numberOf (step book (after centre book fresh hs) (on s x) .answer) ≡ 9 → ⊥
+  pub reporting : (book : List ℕ) (hs : List (Step Octets Question)) (a : ℕ) (x : Outcome) → a < accountCount → usedOk (bookRecord a book) ≡ true
+      → numberOf (step book (after centre book fresh hs) (of a (outcome x)) .answer) ≡ 9 → ⊥
+  pub picking : (book : List ℕ) (hs : List (Step Octets Question)) (a : ℕ) → a < accountCount → usedOk (bookRecord a book) ≡ true
+      → numberOf (step book (after centre book fresh hs) (of a pick) .answer) ≡ 9 → ⊥

@@ -2,10 +2,10 @@
 use Prim.Native.Nat.{ℕ, _≤_}
 use mathlib.Core.List.{List}
 use Rattle.answers.specs.Reply.{spaceNeeded}
-use Rattle.isolation.specs.Platform.{World, octets}
+use Rattle.isolation.specs.Platform.{World, on}
 use Rattle.answers.specs.Answer.{Octets}
 use Rattle.centre.specs.Centre.{step}
 use Rattle.properties.specs.Property1.{writtenOf}
 
 abbrev pub Longest : Type 0
-Longest = (book : List ℕ) (w : World) (s : ℕ) (x : Octets) → writtenOf (step book w (octets s x) .answer) ≤ spaceNeeded
+Longest = (book : List ℕ) (w : World) (s : ℕ) (x : Octets) → writtenOf (step book w (on s x) .answer) ≤ spaceNeeded

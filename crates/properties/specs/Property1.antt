@@ -19,36 +19,35 @@ use Rattle.session.specs.State.{sessionCount, accountCount, entryAt, lastAt}
 use Rattle.session.specs.declared.Entry.{Entry}
 use Rattle.session.specs.declared.Entry.the-variants.{Closed, Open, Transmitter, Receiver, Ended}
 use Rattle.isolation.specs.History.{boundTo}
-use Rattle.isolation.specs.Platform.{tableSize, partOf, World, Step, opens, closes, octets, outcome, picks, unchanged}
-use Rattle.answers.specs.Answer.{Octets, Outcome, Answer, numbered, taken, picked, refusedOctets, refusedPick, numberOf}
+use Rattle.isolation.specs.Platform.{tableSize, partOf, World, Step, opens, closes, on, of, unchanged}
+use Rattle.answers.specs.Answer.{Octets, Question, outcome, pick, Answer, numbered, taken, picked, refusedOctets, refusedQuestion, numberOf}
 use Rattle.centre.specs.Centre.{centre, step}
 
--- a step's refusal: that number alone; of octets, with nothing consumed or written and the space as it was lent; of a pick, with no record
-abbrev pub refusal : Step Octets Outcome → ℕ → Answer
+-- a step's refusal: that number alone; of octets, with nothing consumed or written and the space as it was lent
+abbrev pub refusal : Step Octets Question → ℕ → Answer
 refusal (opens s) n = numbered n
 refusal (closes s) n = numbered n
-refusal (octets s x) n = refusedOctets n x
-refusal (outcome a x) n = numbered n
-refusal (picks a) n = refusedPick n
+refusal (on s x) n = refusedOctets n x
+refusal (of a q) n = refusedQuestion n q
 
 -- how many octets are written, and the command_status that stands in octets 8 to 11 of the reply
 abbrev pub writtenOf : Answer → ℕ
 writtenOf (numbered n) = 0
 writtenOf (taken n consumed written space) = written
-writtenOf (picked n r) = 0
+writtenOf (picked k r) = 0
 
 abbrev pub statusOf : Answer → ℕ
 statusOf (numbered n) = 0
 statusOf (taken n consumed written space) = number (part 8 4 space)
-statusOf (picked n r) = 0
+statusOf (picked k r) = 0
 
 -- the numbers of each kind of step
-abbrev pub numbersOf : Step Octets Outcome → List ℕ
+abbrev pub numbersOf : Step Octets Question → List ℕ
 numbersOf (opens s) = 0 ∷ 2 ∷ 6 ∷ []
 numbersOf (closes s) = 0 ∷ 2 ∷ []
-numbersOf (octets s x) = 0 ∷ 1 ∷ 2 ∷ 3 ∷ 4 ∷ 5 ∷ 6 ∷ 9 ∷ []
-numbersOf (outcome a x) = 0 ∷ 3 ∷ 5 ∷ 7 ∷ 8 ∷ 9 ∷ 10 ∷ []
-numbersOf (picks a) = 0 ∷ 3 ∷ 7 ∷ 9 ∷ 11 ∷ []
+numbersOf (on s x) = 0 ∷ 1 ∷ 2 ∷ 3 ∷ 4 ∷ 5 ∷ 6 ∷ 9 ∷ []
+numbersOf (of a (outcome x)) = 0 ∷ 3 ∷ 5 ∷ 7 ∷ 8 ∷ 9 ∷ 10 ∷ []
+numbersOf (of a pick) = 0 ∷ 3 ∷ 7 ∷ 9 ∷ 11 ∷ []
 
 abbrev pub among : ℕ → List ℕ → Bool
 among n [] = false
@@ -67,25 +66,25 @@ isLive (Receiver a) = true
 isLive Ended = false
 
 -- session, buffers, time stamp and stored records of a step are right; of octets the records are those of the account that the session is bound to
-abbrev pub Right : List ℕ → World → Step Octets Outcome → Type 0
+abbrev pub Right : List ℕ → World → Step Octets Question → Type 0
 Right book w (opens s) = (s < sessionCount) × (entryAt (w .state) s ≡ Closed)
 Right book w (closes s) = s < sessionCount
-Right book w (octets s x) =
+Right book w (on s x) =
     (s < sessionCount) × (isLive (entryAt (w .state) s) ≡ true)
     × (length book ≡ bookSize) × (length (w .table) ≡ tableSize) × (spaceNeeded ≤ length (x .space)) × (sentTime (x .stamp) ≡ true)
     × ((a : ℕ) → boundTo a (entryAt (w .state) s) ≡ true → (a < accountCount) × wellFormed book w a)
-Right book w (outcome a x) =
+Right book w (of a (outcome x)) =
     (length book ≡ bookSize) × (length (w .table) ≡ tableSize) × (sentTime (x .stamp) ≡ true) × (a < accountCount) × wellFormed book w a
-Right book w (picks a) = (length book ≡ bookSize) × (length (w .table) ≡ tableSize) × (a < accountCount) × wellFormed book w a
+Right book w (of a pick) = (length book ≡ bookSize) × (length (w .table) ≡ tableSize) × (a < accountCount) × wellFormed book w a
 
 pub record Property1 : Type 0 where
   -- one of the step's numbers; 0 only where all is right
-  pub defined : (book : List ℕ) (w : World) (st : Step Octets Outcome) → among (numberOf (step book w st .answer)) (numbersOf st) ≡ true
-  pub right : (book : List ℕ) (w : World) (st : Step Octets Outcome) → numberOf (step book w st .answer) ≡ 0 → Right book w st
+  pub defined : (book : List ℕ) (w : World) (st : Step Octets Question) → among (numberOf (step book w st .answer)) (numbersOf st) ≡ true
+  pub right : (book : List ℕ) (w : World) (st : Step Octets Question) → numberOf (step book w st .answer) ≡ 0 → Right book w st
   -- a number other than 0: the step's refusal, and the world unchanged
-  pub refused : (book : List ℕ) (w : World) (st : Step Octets Outcome) → (let r = step book w st in
+  pub refused : (book : List ℕ) (w : World) (st : Step Octets Question) → (let r = step book w st in
       (numberOf (r .answer) ≡ 0 → ⊥) → r ≡ unchanged centre w (refusal st (numberOf (r .answer))))
   -- a reply with a status other than 0: every stored message and every last id as they were
-  pub kept : (book : List ℕ) (w : World) (s : ℕ) (x : Octets) → (let r = step book w (octets s x) in
+  pub kept : (book : List ℕ) (w : World) (s : ℕ) (x : Octets) → (let r = step book w (on s x) in
       (writtenOf (r .answer) ≡ 0 → ⊥) → (statusOf (r .answer) ≡ 0 → ⊥)
       → (r .world .table ≡ w .table) × (r .world .state .lasts ≡ w .state .lasts))

@@ -5,9 +5,11 @@ use mathlib.Core.List.{List}
 use lib.ListN.{length, getD}
 use lib.Dec.{eqb}
 use Rattle.octets.specs.Stretch.{part, same, zeros}
-use Rattle.forms.specs.Field.{textOf, isField}
+use Rattle.octets.specs.Lent.{Lent, lentPart}
+use Rattle.forms.specs.Field.{addressSize, textOf, isField}
 use Rattle.forms.specs.declared.text.Form.{Form}
 use Rattle.forms.specs.declared.text.Form.the-variants.{Ascii, Digits}
+use Rattle.records.specs.Layout.{accountCount}
 
 abbrev pub bookRecordSize : ℕ
 bookRecordSize = 64
@@ -19,12 +21,19 @@ systemOf b = part 0 16 b
 abbrev pub passwordOf : List ℕ → List ℕ
 passwordOf b = part 16 9 b
 
-abbrev pub kindOf : List ℕ → List ℕ
-kindOf b = part 25 13 b
+abbrev pub systemTypeOf : List ℕ → List ℕ
+systemTypeOf b = part 25 13 b
 
 -- 38 callback ton, 39 callback npi, 40-60 callback address: as a source, its 20 characters at most
 abbrev pub callbackOf : List ℕ → List ℕ
-callbackOf b = part 38 22 b
+callbackOf b = part 38 addressSize b
+
+abbrev pub callbackFieldOf : List ℕ → List ℕ
+callbackFieldOf b = part 40 21 b
+
+-- 61-63 zero
+abbrev pub bookSpareOf : List ℕ → List ℕ
+bookSpareOf b = part 61 3 b
 
 -- a text in a field that ends with at least one zero octet
 abbrev pub endedText : Form → List ℕ → Bool
@@ -35,9 +44,9 @@ unfoldable pub bookOk : List ℕ → Bool
 bookOk b =
     endedText Ascii (systemOf b)
     && endedText Ascii (passwordOf b)
-    && endedText Ascii (kindOf b)
-    && endedText Digits (part 40 21 b)
-    && zeros (part 61 3 b)
+    && endedText Ascii (systemTypeOf b)
+    && endedText Digits (callbackFieldOf b)
+    && zeros (bookSpareOf b)
 
 -- an unused record is all zero
 unfoldable pub usedOk : List ℕ → Bool
@@ -52,7 +61,7 @@ sameAddress a b = same a b
 
 -- a used, well-formed record with equal system_id and system_type
 unfoldable pub named : List ℕ → List ℕ → List ℕ → Bool
-named system kind b = usedOk b && sameName (textOf (systemOf b)) system && sameName (textOf (kindOf b)) kind
+named system kind b = usedOk b && sameName (textOf (systemOf b)) system && sameName (textOf (systemTypeOf b)) kind
 
 unfoldable pub passwordIs : List ℕ → List ℕ → Bool
 passwordIs password b = same (textOf (passwordOf b)) password
@@ -61,5 +70,9 @@ passwordIs password b = same (textOf (passwordOf b)) password
 abbrev pub bookRecord : ℕ → List ℕ → List ℕ
 bookRecord a book = part (bookRecordSize * a) bookRecordSize book
 
+-- the same where it stands
+abbrev pub bookRecordPart : ℕ → Lent → Lent
+bookRecordPart a book = lentPart (bookRecordSize * a) bookRecordSize book
+
 abbrev pub bookSize : ℕ
-bookSize = 512
+bookSize = bookRecordSize * accountCount

@@ -1,9 +1,12 @@
--- The message record's layout (document 01, "The account book and the table"): where each field stands in the 256 octets, said once.
-use Prim.Native.Nat.{ℕ}
+-- The table's layout (document 01, "The account book and the table"): its sizes, and where each field of a message record stands, said once.
+use Prim.Native.Nat.{ℕ, _*_}
 use mathlib.Core.List.{List}
 use lib.ListN.{getD}
 use Rattle.octets.specs.Stretch.{part}
 use Rattle.octets.specs.Number.{number}
+use Rattle.forms.specs.Text.{longestText}
+use Rattle.forms.specs.Time.{timeLength}
+use Rattle.forms.specs.Field.{addressSize}
 
 abbrev pub recordSize : ℕ
 recordSize = 256
@@ -11,8 +14,15 @@ recordSize = 256
 abbrev pub places : ℕ
 places = 16
 
+-- an account's part of the table
 abbrev pub partSize : ℕ
-partSize = 4096
+partSize = recordSize * places
+
+abbrev pub accountCount : ℕ
+accountCount = 8
+
+abbrev pub tableSize : ℕ
+tableSize = partSize * accountCount
 
 -- 0 empty, 1 waiting, 2 delivered, 3 expired, 4 deleted, 5 undeliverable
 abbrev pub stateOf : List ℕ → ℕ
@@ -24,11 +34,11 @@ idOf r = number (part 1 4 r)
 
 -- 5, 6, 7-26: source ton, npi, address
 abbrev pub sourceOf : List ℕ → List ℕ
-sourceOf r = part 5 22 r
+sourceOf r = part 5 addressSize r
 
 -- 27, 28, 29-48: destination ton, npi, address
 abbrev pub destinationOf : List ℕ → List ℕ
-destinationOf r = part 27 22 r
+destinationOf r = part 27 addressSize r
 
 -- 49-53, 54, 55, 56: service_type, esm_class, protocol id, priority
 abbrev pub serviceOf : List ℕ → List ℕ
@@ -39,10 +49,10 @@ priorityOf r = getD r 56 0
 
 -- 57-72, 73-88: schedule time, validity time
 abbrev pub scheduleOf : List ℕ → List ℕ
-scheduleOf r = part 57 16 r
+scheduleOf r = part 57 timeLength r
 
 abbrev pub validityOf : List ℕ → List ℕ
-validityOf r = part 73 16 r
+validityOf r = part 73 timeLength r
 
 -- 89, 90, 91: registered flag, data coding, default message id
 abbrev pub registeredOf : List ℕ → ℕ
@@ -56,11 +66,11 @@ abbrev pub lengthOf : List ℕ → ℕ
 lengthOf r = getD r 92 0
 
 abbrev pub textFieldOf : List ℕ → List ℕ
-textFieldOf r = part 93 140 r
+textFieldOf r = part 93 longestText r
 
 -- 233-248, 249, 250-255: final date, error code, zero
 abbrev pub dateOf : List ℕ → List ℕ
-dateOf r = part 233 16 r
+dateOf r = part 233 timeLength r
 
 abbrev pub errorOf : List ℕ → ℕ
 errorOf r = getD r 249 0

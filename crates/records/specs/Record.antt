@@ -7,6 +7,7 @@ use lib.Dec.{eqb, leb}
 use Rattle.octets.specs.Choice.{if_then_else_}
 use Rattle.octets.specs.Stretch.{part, zeros}
 use Rattle.forms.specs.Class.{within}
+use Rattle.forms.specs.Text.{longestText}
 use Rattle.forms.specs.Field.{isField}
 use Rattle.forms.specs.Time.{storedTime}
 use Rattle.forms.specs.declared.text.Form.the-variants.{Ascii, Address}
@@ -24,7 +25,7 @@ timeOk t = zeros t || storedTime t
 unfoldable pub textOk : List ℕ → Bool
 textOk r =
     leb (defaultOf r) 100
-    && leb (lengthOf r) 140
+    && leb (lengthOf r) longestText
     && (eqb (lengthOf r) 0 || eqb (defaultOf r) 0)
     && zeros (drop (lengthOf r) (textFieldOf r))
 

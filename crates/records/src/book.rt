@@ -1,18 +1,43 @@
 // The account book's record.
+use crate::layout;
 use forms::field;
 use forms::text::Form;
 ghost use mathlib.Core.Path.{_≡_};
 ghost use Prim.Native.Nat.{_≤_, _<_};
 ghost use lib.ListN.{length};
-ghost use Rattle.records.specs.Book.{bookRecordSize, bookRecord, bookSize, endedText, usedOk, sameName, sameAddress, named, passwordIs};
+ghost use Rattle.octets.specs.Lent.{lent};
+ghost use Rattle.records.specs.Layout.{accountCount};
+ghost use Rattle.records.specs.Book.{bookRecordSize, bookRecordPart, bookSize, endedText, usedOk, sameName, sameAddress, named, passwordIs};
+
+// Where the fields of a book record start. Each ends where the next one starts.
+const SYSTEM_ID: usize = 0;
+
+const PASSWORD: usize = 16;
+
+const SYSTEM_TYPE: usize = 25;
+
+// Ton and npi, and then the address.
+pub const CALLBACK: usize = 38;
+
+const CALLBACK_ADDRESS: usize = 40;
+
+const SPARE: usize = 61;
+
+pub const RECORD_SIZE: usize = 64;
+
+// Where the callback as a source ends: behind its 20 characters at most, before the zero that its field ends with.
+pub const CALLBACK_END: usize = CALLBACK + field::ADDRESS_SIZE;
+
+// The book's records, one behind the other.
+pub const SIZE: usize = RECORD_SIZE * layout::ACCOUNTS;
 
 // The record of account a, in the book itself.
 pub fn record_of(book: &[u8], a: usize) -> &[u8]
-    requires { ⌜ (length (now book) ≡ bookSize) × (a < 8) ⌝ }
-    ensures { λ r. ⌜ (now r ≡ bookRecord a (now (book .entry))) × (length (now r) ≡ bookRecordSize) ⌝ }
+    requires { ⌜ (length (now book) ≡ bookSize) × (a < accountCount) ⌝ }
+    ensures { λ r. ⌜ (lent r ≡ bookRecordPart a (lent (book .entry))) × (length (now r) ≡ bookRecordSize) ⌝ }
 {
-    let at = 64 * a;
-    &book[at..at + 64]
+    let at = RECORD_SIZE * a;
+    &book[at..at + RECORD_SIZE]
 }
 
 fn is_ended_text(f: &[u8], form: Form) -> bool
@@ -28,11 +53,11 @@ pub fn is_used_ok(b: &[u8]) -> bool
     requires { ⌜ length (now b) ≡ bookRecordSize ⌝ }
     ensures { λ r. ⌜ r ≡ usedOk (now (b .entry)) ⌝ }
 {
-    is_ended_text(&b[0..16], Form::Ascii)
-        & is_ended_text(&b[16..25], Form::Ascii)
-        & is_ended_text(&b[25..38], Form::Ascii)
-        & is_ended_text(&b[40..61], Form::Digits)
-        & octets::stretch::all_zero(&b[61..64])
+    is_ended_text(&b[SYSTEM_ID..PASSWORD], Form::Ascii)
+        & is_ended_text(&b[PASSWORD..SYSTEM_TYPE], Form::Ascii)
+        & is_ended_text(&b[SYSTEM_TYPE..CALLBACK], Form::Ascii)
+        & is_ended_text(&b[CALLBACK_ADDRESS..SPARE], Form::Digits)
+        & octets::stretch::all_zero(&b[SPARE..RECORD_SIZE])
 }
 
 fn is_same_name(a: &[u8], b: &[u8]) -> bool
@@ -53,8 +78,8 @@ pub fn is_named(b: &[u8], system: &[u8], kind: &[u8]) -> bool
     ensures { λ r. ⌜ r ≡ named (now (system .entry)) (now (kind .entry)) (now (b .entry)) ⌝ }
 {
     // The names first: they tell most records apart, and the test of a whole record takes longer.
-    let named = is_same_name(field::text_of(&b[0..16]), system)
-        & is_same_name(field::text_of(&b[25..38]), kind);
+    let named = is_same_name(field::text_of(&b[SYSTEM_ID..PASSWORD]), system)
+        & is_same_name(field::text_of(&b[SYSTEM_TYPE..CALLBACK]), kind);
     if named { is_used_ok(b) } else { false }
 }
 
@@ -62,5 +87,5 @@ pub fn is_password(b: &[u8], password: &[u8]) -> bool
     requires { ⌜ length (now b) ≡ bookRecordSize ⌝ }
     ensures { λ r. ⌜ r ≡ passwordIs (now (password .entry)) (now (b .entry)) ⌝ }
 {
-    octets::stretch::is_same(field::text_of(&b[16..25]), password)
+    octets::stretch::is_same(field::text_of(&b[PASSWORD..SYSTEM_TYPE]), password)
 }

@@ -32,3 +32,12 @@ pub const ERROR_CODE: usize = 249;
 pub const SPARE: usize = 250;
 
 pub const RECORD_SIZE: usize = 256;
+
+// Sixteen records are an account's part, eight parts the table.
+pub const PLACES: usize = 16;
+
+pub const PART_SIZE: usize = RECORD_SIZE * PLACES;
+
+pub const ACCOUNTS: usize = 8;
+
+pub const TABLE_SIZE: usize = PART_SIZE * ACCOUNTS;

@@ -1,10 +1,12 @@
 // The test of one message record.
 use crate::layout;
 use forms::field;
+use forms::text;
 use forms::text::Form;
 ghost use mathlib.Core.Path.{_≡_};
 ghost use lib.ListN.{length};
 ghost use Rattle.forms.specs.Class.{within};
+ghost use Rattle.forms.specs.Field.{addressSize};
 ghost use Rattle.records.specs.Layout.{recordSize};
 ghost use Rattle.records.specs.Record.{addressOk, timeOk, textOk, fieldsOk, endOk, messageOk, recordOk};
 
@@ -21,10 +23,10 @@ fn is_time_ok(t: &[u8]) -> bool
 }
 
 fn is_address_ok(address: &[u8]) -> bool
-    requires { ⌜ length (now address) ≡ 22 ⌝ }
+    requires { ⌜ length (now address) ≡ addressSize ⌝ }
     ensures { λ r. ⌜ r ≡ addressOk (now (address .entry)) ⌝ }
 {
-    field::is_field(&address[2..22], Form::Address)
+    field::is_field(&address[2..field::ADDRESS_SIZE], Form::Address)
 }
 
 fn is_text_ok(r: &[u8]) -> bool
@@ -35,7 +37,7 @@ fn is_text_ok(r: &[u8]) -> bool
     let size = r[layout::LENGTH];
     let unused = octets::stretch::from(&r[layout::TEXT..layout::FINAL_DATE], size as usize);
     (default <= 100)
-        & (size <= 140)
+        & (size <= text::LONGEST_TEXT)
         & ((size == 0) | (default == 0))
         & octets::stretch::all_zero(unused)
 }

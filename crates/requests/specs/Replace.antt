@@ -1,9 +1,10 @@
 -- replace_sm: 002, 6.3.8.1. sm_length above 140, and both lengths, are judged where sm_length stands.
 use Prim.Native.Nat.{ℕ, _≤_}
 use mathlib.Core.List.{List}
+use Rattle.forms.specs.Text.{longestText}
 use Rattle.wire.specs.Status.{invalidRegistered, invalidParameter, invalidSource}
 use Rattle.wire.specs.Cursor.{start, endOf}
-use Rattle.wire.specs.Fields.{Inside, longestText, octetAt, addressAt, idAt, timeAt, shortAt}
+use Rattle.wire.specs.Fields.{Inside, octetAt, addressAt, idAt, timeAt, shortAt}
 use Rattle.requests.specs.declared.replace.Replace.{Replace}
 use Rattle.requests.specs.declared.replace.ReplaceRead.{ReplaceRead}
 

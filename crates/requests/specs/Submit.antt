@@ -2,9 +2,10 @@
 use Prim.Native.Nat.{ℕ, _≤_}
 use mathlib.Core.List.{List}
 use Rattle.forms.specs.declared.text.Form.the-variants.{Ascii}
+use Rattle.forms.specs.Text.{longestText}
 use Rattle.wire.specs.Status.{invalidCommandLength, invalidPriority, invalidRegistered, invalidParameter, invalidSource, invalidDestination}
 use Rattle.wire.specs.Cursor.{start, endOf}
-use Rattle.wire.specs.Fields.{Inside, longestText, octetAt, textAt, addressAt, timeAt, shortAt}
+use Rattle.wire.specs.Fields.{Inside, octetAt, textAt, addressAt, timeAt, shortAt}
 use Rattle.requests.specs.declared.submit.Submit.{Submit}
 use Rattle.requests.specs.declared.submit.SubmitRead.{SubmitRead}
 

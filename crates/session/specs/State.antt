@@ -3,6 +3,7 @@ use Prim.Native.Nat.{ℕ}
 use lib.ListN.{getD, set, replicate}
 use lib.Dec.{leb}
 use Rattle.octets.specs.Choice.{if_then_else_}
+pub use Rattle.records.specs.Layout.{accountCount}
 use Rattle.session.specs.declared.Entry.{Entry}
 use Rattle.session.specs.declared.Entry.the-variants.{Closed, Open, Transmitter, Receiver, Ended}
 use Rattle.session.specs.declared.Session.{Session}
@@ -11,9 +12,6 @@ use Rattle.session.specs.declared.Moved.{Moved}
 
 abbrev pub sessionCount : ℕ
 sessionCount = 16
-
-abbrev pub accountCount : ℕ
-accountCount = 8
 
 abbrev pub closedSession : Session
 closedSession = record { entry = Closed }

@@ -1,6 +1,7 @@
 // The state: sixteen sessions and eight last-issued ids. It goes in by value and comes back.
 pub mod number;
 
+use records::layout;
 ghost use mathlib.Core.Path.{_≡_};
 ghost use Prim.Native.Nat.{_<_};
 ghost use Rattle.session.specs.State.{sessionCount, accountCount, fresh, entryAt, lastAt, opened, closed, bound, ended, issued};
@@ -19,8 +20,8 @@ pub struct Session {
 }
 
 pub struct State {
-    pub sessions: [Session; 16],
-    pub lasts: [u32; 8],
+    pub sessions: [Session; SESSIONS],
+    pub lasts: [u32; layout::ACCOUNTS],
 }
 
 // A number, and the state handed back.
@@ -38,10 +39,10 @@ impl State {
     {
         let sessions = [Session {
             entry: Entry::Closed,
-        }; 16];
+        }; SESSIONS];
         State {
             sessions,
-            lasts: [0; 8],
+            lasts: [0; layout::ACCOUNTS],
         }
     }
 
@@ -105,19 +106,19 @@ impl State {
                 }
             }
             Entry::Open => Moved {
-                number: number::NOT_OPEN,
+                number: number::UNFIT_SESSION,
                 state: self,
             },
             Entry::Transmitter(_) => Moved {
-                number: number::NOT_OPEN,
+                number: number::UNFIT_SESSION,
                 state: self,
             },
             Entry::Receiver(_) => Moved {
-                number: number::NOT_OPEN,
+                number: number::UNFIT_SESSION,
                 state: self,
             },
             Entry::Ended => Moved {
-                number: number::NOT_OPEN,
+                number: number::UNFIT_SESSION,
                 state: self,
             },
         }

@@ -11,7 +11,7 @@ pub const SPACE_TOO_SHORT: u8 = 4;
 
 pub const STAMP_ILL_FORMED: u8 = 5;
 
-pub const NOT_OPEN: u8 = 6;
+pub const UNFIT_SESSION: u8 = 6;
 
 pub const NO_ACCOUNT: u8 = 7;
 

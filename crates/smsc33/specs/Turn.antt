@@ -25,7 +25,7 @@ pub record Told : Type 0 where
 abbrev pub lineOf : Answer → List ℕ
 lineOf (A.numbered n) = line n 0 []
 lineOf (A.taken n consumed written space) = line n consumed (take written space)
-lineOf (A.picked n r) = line n 0 []
+lineOf (A.picked k r) = line 0 0 []
 
 abbrev pub answered : Ran Answer → Told
 answered x = record { text = lineOf (x .answer); world = x .world; goesOn = true }
@@ -40,9 +40,9 @@ zeroSpace = replicate spaceNeeded 0
 abbrev pub ordered : Order → List ℕ → World → List ℕ → Told
 ordered Open book w r = answered (step book w (Step.opens (sessionOf r)))
 ordered Octets book w r =
-    answered (step book w (Step.octets (sessionOf r) (record { octets = payloadOf r; stamp = stampOf r; space = zeroSpace })))
+    answered (step book w (Step.on (sessionOf r) (record { octets = payloadOf r; stamp = stampOf r; space = zeroSpace })))
 ordered Close book w r = answered (step book w (Step.closes (sessionOf r)))
-ordered Outcome book w r = answered (step book w (Step.outcome (accountOf r) (outcomeOf r)))
+ordered Outcome book w r = answered (step book w (Step.of (accountOf r) (A.outcome (outcomeOf r))))
 ordered Bad book w r = stopped w
 
 unfoldable pub turnOf : List ℕ → World → List ℕ → Told

@@ -1,6 +1,10 @@
 // The printing program: reads the account book from accounts.bin and records of 544 octets from standard input, and prints a line for each.
 mod turn;
 
+use lines::record;
+use lines::text;
+use records::book;
+use records::layout;
 use session::State;
 ghost use Rattle.io.specs.Counts.{Counts};
 
@@ -11,16 +15,16 @@ struct Went {
 
 // Reads one record, takes it and prints its line. Nothing is left to do where the input ends.
 fn read_turn(book: &[u8], table: &mut [u8], state: State) -> Went {
-    let mut record = [0u8; 544];
-    let n = io::read_full(libc::STDIN_FILENO, &mut record);
+    let mut asked = [0u8; record::SIZE];
+    let n = io::read_full(libc::STDIN_FILENO, &mut asked);
     if n == 0 {
         return Went { more: false, state };
     }
-    let mut text = [0u8; 131];
-    let turned = turn::turn(book, table, state, &record[..n], &mut text);
+    let mut line = [0u8; text::ROOM];
+    let turned = turn::turn(book, table, state, &asked[..n], &mut line);
     let next = turned.state;
     let length = turned.length;
-    io::write_all(libc::STDOUT_FILENO, &text[..length]);
+    io::write_all(libc::STDOUT_FILENO, &line[..length]);
     Went {
         more: turned.more,
         state: next,
@@ -66,6 +70,9 @@ fn read_book(fd: i32, book: &mut [u8]) -> Book
     }
 }
 
+// One octet more than a book has: a book that is too long is lent as such.
+const BOOK_READ: usize = book::SIZE + 1;
+
 fn main() {
     let path = b"accounts.bin";
     let fd = os::open_read(path);
@@ -73,15 +80,14 @@ fn main() {
         os::fail(path);
         return;
     }
-    // One octet more than a book has: a book that is too long is lent as such.
-    let mut book = [0u8; 513];
-    let read = read_book(fd, &mut book);
+    let mut octets = [0u8; BOOK_READ];
+    let read = read_book(fd, &mut octets);
     if read.failed {
         os::fail(path);
         return;
     }
     libc::close(fd);
     let n = read.count;
-    let mut table = [0u8; 32768];
-    run(&book[..n], &mut table);
+    let mut table = [0u8; layout::TABLE_SIZE];
+    run(&octets[..n], &mut table);
 }

@@ -1,4 +1,5 @@
 // One record taken: what the centre makes of it, and the line that tells it.
+use answers::reply;
 use lines::record;
 use lines::record::Order;
 use lines::text;
@@ -8,6 +9,7 @@ ghost use Prim.Native.Nat.{ℕ};
 ghost use mathlib.Core.List.{List};
 ghost use lib.ListN.{length};
 ghost use Rattle.isolation.specs.Platform.{Step};
+ghost use Rattle.answers.specs.Answer.{Question};
 ghost use Rattle.centre.specs.Centre.{step, world};
 ghost use Rattle.lines.specs.Line.{lineRoom};
 ghost use Rattle.lines.specs.Record.{recordSize, outcomeOf, accountOf};
@@ -58,9 +60,9 @@ fn take(
     text: &mut [u8],
 ) -> Turned
     requires { ⌜ length (now text) ≡ lineRoom ⌝ }
-    ensures { λ r. ⌜ (turned r (now (table .exit)) (now (text .exit)) ≡ answered (step (now (book .entry)) (world state (now (table .entry))) (Step.octets session (record { octets = now (octets .entry); stamp = now (stamp .entry); space = zeroSpace })))) × Fits r (now (text .exit)) ⌝ }
+    ensures { λ r. ⌜ (turned r (now (table .exit)) (now (text .exit)) ≡ answered (step (now (book .entry)) (world state (now (table .entry))) (Step.on session (record { octets = now (octets .entry); stamp = now (stamp .entry); space = zeroSpace })))) × Fits r (now (text .exit)) ⌝ }
 {
-    let mut space = [0u8; 44];
+    let mut space = [0u8; reply::SPACE_NEEDED];
     let took = centre::take::take(book, table, state, session, octets, stamp, &mut space);
     let next = took.state;
     let reply = octets::stretch::first(&space, took.written);
@@ -74,7 +76,7 @@ fn take(
 
 fn outcome(book: &[u8], table: &mut [u8], state: State, asked: &[u8], text: &mut [u8]) -> Turned
     requires { ⌜ (length (now asked) ≡ recordSize) × (length (now text) ≡ lineRoom) ⌝ }
-    ensures { λ r. ⌜ (turned r (now (table .exit)) (now (text .exit)) ≡ answered (step (now (book .entry)) (world state (now (table .entry))) (Step.outcome (accountOf (now (asked .entry))) (outcomeOf (now (asked .entry)))))) × Fits r (now (text .exit)) ⌝ }
+    ensures { λ r. ⌜ (turned r (now (table .exit)) (now (text .exit)) ≡ answered (step (now (book .entry)) (world state (now (table .entry))) (Step.of (accountOf (now (asked .entry))) (Question.outcome (outcomeOf (now (asked .entry))))))) × Fits r (now (text .exit)) ⌝ }
 {
     let id = octets::number::number_at(asked, 21);
     let number = centre::operations::outcome(

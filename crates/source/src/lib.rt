@@ -1,5 +1,7 @@
 // Whose message it is, and which record a message id names.
+use forms::field;
 use forms::text::MessageId;
+use records::book;
 use store::places::Found;
 use wire::fields::Address;
 ghost use mathlib.Core.Path.{_≡_};
@@ -22,8 +24,8 @@ pub fn source_for(book: &[u8], source: Address) -> Address
     ensures { λ r. ⌜ r .octets ≡ sourceFor (now (book .entry)) (source .octets) ⌝ }
 {
     if is_none(source) {
-        let mut octets = [0u8; 22];
-        octets::stretch::put(&mut octets, 0, &book[38..60]);
+        let mut octets = [0u8; field::ADDRESS_SIZE];
+        octets::stretch::put(&mut octets, 0, &book[book::CALLBACK..book::CALLBACK_END]);
         Address { octets }
     } else {
         source

@@ -5,6 +5,7 @@ use mathlib.Core.List.{List, [], _∷_}
 use lib.Dec.{ltb}
 use Rattle.octets.specs.Choice.{if_then_else_}
 use Rattle.octets.specs.Stretch.{part, patch}
+use Rattle.octets.specs.Lent.{Lent, lentPart}
 use Rattle.octets.specs.Rows.{rows}
 use Rattle.records.specs.Layout.{recordSize, places}
 use Rattle.store.specs.declared.places.Found.{Found}
@@ -17,6 +18,10 @@ records xs = rows recordSize places xs
 -- the record at place k
 abbrev pub recordAt : ℕ → List ℕ → List ℕ
 recordAt k xs = part (recordSize * k) recordSize xs
+
+-- the 256-octet record itself as part of the account's part, from octet 256k on
+abbrev pub recordPart : ℕ → Lent → Lent
+recordPart k s = lentPart (recordSize * k) recordSize s
 
 -- a place that is found is one of the first n; one of the sixteen
 abbrev pub Below : ℕ → Found → Type 0

@@ -5,7 +5,7 @@ use mathlib.Core.List.{List}
 use lib.Dec.{eqb}
 use Rattle.octets.specs.Choice.{if_then_else_}
 use Rattle.forms.specs.Class.{within}
-use Rattle.records.specs.Layout.{stateOf, idOf, sourceOf, destinationOf, priorityOf}
+use Rattle.records.specs.Layout.{accountCount, stateOf, idOf, sourceOf, destinationOf, priorityOf}
 use Rattle.octets.specs.Rows.{rows}
 use Rattle.records.specs.Book.{bookRecordSize, sameAddress, named}
 use Rattle.store.specs.Places.{records, lowest}
@@ -66,7 +66,7 @@ nextPlace xs = lowest waiting turn (records xs)
 
 -- the lowest used, well-formed book record with equal system_id and system_type
 abbrev pub namedPlace : List ℕ → List ℕ → List ℕ → Found
-namedPlace system kind book = lowest (named system kind) (λ r. 0) (rows bookRecordSize 8 book)
+namedPlace system kind book = lowest (named system kind) (λ r. 0) (rows bookRecordSize accountCount book)
 
 -- ---- the same five, by the name of the search
 

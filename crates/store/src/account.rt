@@ -22,7 +22,7 @@ fn are_records_ok(part: &[u8], last: u32) -> bool
 {
     let mut ok = true;
     let mut k = 0;
-    while k < 16 {
+    while k < layout::PLACES {
         ok = ok & record::is_record_ok(last, places::record_at(part, k));
         k += 1;
     }
@@ -43,7 +43,7 @@ fn is_free_from(part: &[u8], k: usize, id: u32) -> bool
 {
     let mut free = true;
     let mut j = k;
-    while j < 16 {
+    while j < layout::PLACES {
         free = free & is_other_id(id, places::record_at(part, j));
         j += 1;
     }
@@ -69,7 +69,7 @@ fn are_ids_apart(part: &[u8]) -> bool
 {
     let mut ok = true;
     let mut k = 0;
-    while k < 16 {
+    while k < layout::PLACES {
         ok = ok & is_apart(part, k);
         k += 1;
     }

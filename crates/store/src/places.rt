@@ -3,9 +3,10 @@ use records::layout;
 ghost use mathlib.Core.Path.{_≡_};
 ghost use Prim.Native.Nat.{_<_};
 ghost use lib.ListN.{length};
+ghost use Rattle.octets.specs.Lent.{lent};
 ghost use Rattle.records.specs.Layout.{recordSize, places, partSize, idOf};
 ghost use Rattle.store.specs.Search.{waiting};
-ghost use Rattle.store.specs.Places.{recordAt, none, foundOf};
+ghost use Rattle.store.specs.Places.{recordAt, recordPart, none, foundOf};
 
 // A place, or absent.
 pub enum Found {
@@ -45,7 +46,7 @@ impl Best {
 // The record at place k, in the part itself.
 pub fn record_at(part: &[u8], k: usize) -> &[u8]
     requires { ⌜ (length (now part) ≡ partSize) × (k < places) ⌝ }
-    ensures { λ r. ⌜ (now r ≡ recordAt k (now (part .entry))) × (length (now r) ≡ recordSize) ⌝ }
+    ensures { λ r. ⌜ (lent r ≡ recordPart k (lent (part .entry))) × (length (now r) ≡ recordSize) ⌝ }
 {
     let at = layout::RECORD_SIZE * k;
     &part[at..at + layout::RECORD_SIZE]

@@ -8,7 +8,7 @@ ghost use mathlib.Core.Path.{_≡_};
 ghost use mathlib.Core.Bool.{_&&_};
 ghost use Prim.Native.Nat.{_<_};
 ghost use lib.ListN.{length};
-ghost use Rattle.records.specs.Layout.{recordSize, places, partSize};
+ghost use Rattle.records.specs.Layout.{recordSize, places, partSize, accountCount};
 ghost use Rattle.store.specs.Places.{records, recordAt, Below, OnePlace, keep, lowest};
 ghost use Rattle.records.specs.Book.{bookRecordSize, bookSize, named};
 ghost use Rattle.store.specs.Search.{waiting, between, turn, placeOf, pairPlace, newPlace, nextPlace, namedPlace, passes, rankOf};
@@ -103,7 +103,7 @@ fn lowest_of(part: &[u8], search: Search, source: &[u8], destination: &[u8]) -> 
 {
     let mut best = Best::none();
     let mut k = 0;
-    while k < 16 {
+    while k < layout::PLACES {
         best = better(
             best,
             k,
@@ -169,11 +169,11 @@ fn better_named(best: Best, a: usize, b: &[u8], system: &[u8], kind: &[u8]) -> B
 // The account that a bind names.
 pub fn find_named(book: &[u8], system: &[u8], kind: &[u8]) -> Found
     requires { ⌜ length (now book) ≡ bookSize ⌝ }
-    ensures { λ x. ⌜ (x ≡ namedPlace (now (system .entry)) (now (kind .entry)) (now (book .entry))) × Below 8 x ⌝ }
+    ensures { λ x. ⌜ (x ≡ namedPlace (now (system .entry)) (now (kind .entry)) (now (book .entry))) × Below accountCount x ⌝ }
 {
     let mut best = Best::none();
     let mut a = 0;
-    while a < 8 {
+    while a < layout::ACCOUNTS {
         best = better_named(best, a, book::record_of(book, a), system, kind);
         a += 1;
     }

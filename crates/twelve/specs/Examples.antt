@@ -17,7 +17,7 @@ use Rattle.session.specs.declared.Entry.the-variants.{Open, Transmitter, Ended}
 use Rattle.session.specs.declared.State.{State}
 use Rattle.isolation.specs.Platform.{World, Step, Ran, opens, fresh}
 use Rattle.isolation.specs.History.{after}
-use Rattle.answers.specs.Answer.{Octets, Outcome, Answer}
+use Rattle.answers.specs.Answer.{Octets, Question, Answer}
 use Rattle.answers.specs.Answer as A
 use Rattle.centre.specs.Centre.{centre, step}
 use Rattle.twelve.specs.Computed.{computed}
@@ -65,7 +65,7 @@ pub data Name : Type 0 where
   P12 : Name
 
 pub data Case : Type 0 where
-  taking : (book : List ℕ) → World → Step Octets Outcome → Came → Case
+  taking : (book : List ℕ) → World → Step Octets Question → Came → Case
   reading : List ℕ → IdRead → Case
 
 pub record Example : Type 0 where

@@ -2,3 +2,4 @@ pub mod Computed
 pub mod Requests
 pub mod Examples
 pub mod Stored
+pub mod Rules

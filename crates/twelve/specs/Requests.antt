@@ -4,8 +4,8 @@ use mathlib.Core.List.{List, [], _∷_, _++_}
 use lib.ListN.{length, replicate}
 use Rattle.octets.specs.Number.{octets4}
 use Rattle.octets.specs.Stretch.{padded}
-use Rattle.isolation.specs.Platform.{Step, octets}
-use Rattle.answers.specs.Answer.{Octets, Outcome}
+use Rattle.isolation.specs.Platform.{Step, on}
+use Rattle.answers.specs.Answer.{Octets, Question}
 
 -- numbers of four octets: of the requests alone, what is to come of them stands octet by octet
 abbrev pub words : List ℕ → List ℕ
@@ -55,9 +55,12 @@ stamp = 57 ∷ 54 ∷ 48 ∷ 55 ∷ 48 ∷ 49 ∷ 49 ∷ 50 ∷ 48 ∷ 48 ∷ 48
 abbrev pub noAccounts : List ℕ
 noAccounts = replicate 512 0
 
+abbrev pub entryWith : List ℕ → List ℕ → List ℕ → List ℕ → List ℕ
+entryWith system password kind callback =
+    padded 16 system ++ (padded 9 password ++ (padded 13 kind ++ (1 ∷ 1 ∷ (padded 21 callback ++ replicate 3 0))))
+
 abbrev pub entry : List ℕ → List ℕ → List ℕ → List ℕ
-entry system password kind =
-    padded 16 system ++ (padded 9 password ++ (padded 13 kind ++ (1 ∷ 1 ∷ (padded 21 office ++ replicate 3 0))))
+entry system password kind = entryWith system password kind office
 
 abbrev pub twoAccounts : List ℕ
 twoAccounts = entry paging secret vma ++ (entry plant other [] ++ replicate 384 0)
@@ -72,9 +75,21 @@ pdu command sequence body = words ((16 + length body) ∷ command ∷ 0 ∷ sequ
 abbrev pub bind : List ℕ → List ℕ → List ℕ → List ℕ
 bind system password kind = ended system ++ (ended password ++ (ended kind ++ (0x33 ∷ 0 ∷ 0 ∷ 0 ∷ [])))
 
+-- ton 1, npi 1, then the number and its NUL; and none of the three
+abbrev pub address : List ℕ → List ℕ
+address number = 1 ∷ 1 ∷ ended number
+
+abbrev pub emptyAddress : List ℕ
+emptyAddress = 0 ∷ 0 ∷ 0 ∷ []
+
+-- source, destination, priority, replace flag and default id, the other fields not given; the last holds sm_length and the text
+abbrev pub submissionWith : List ℕ → List ℕ → ℕ → ℕ → ℕ → List ℕ → List ℕ
+submissionWith source destination priority replace default text =
+    0 ∷ (source ++ (destination ++ (0 ∷ 0 ∷ priority ∷ 0 ∷ 0 ∷ 0 ∷ replace ∷ 0 ∷ default ∷ text)))
+
 -- "hello" to 447700900123, nothing else given
 abbrev pub submission : List ℕ
-submission = 0 ∷ 0 ∷ 0 ∷ 0 ∷ 1 ∷ 1 ∷ (ended mobile ++ (replicate 9 0 ++ (5 ∷ hello)))
+submission = submissionWith emptyAddress (address mobile) 0 0 0 (5 ∷ hello)
 
 -- the id "1", no source
 abbrev pub query : List ℕ
@@ -86,5 +101,5 @@ query = 49 ∷ 0 ∷ 0 ∷ 0 ∷ 0 ∷ []
 abbrev pub space : List ℕ
 space = replicate 44 0xEE
 
-abbrev pub sends : ℕ → List ℕ → Step Octets Outcome
-sends session given = octets session (record { octets = given; stamp = stamp; space = space })
+abbrev pub sends : ℕ → List ℕ → Step Octets Question
+sends session given = on session (record { octets = given; stamp = stamp; space = space })

@@ -7,17 +7,16 @@ use lib.ListN.{take, replicate}
 use Rattle.octets.specs.Stretch.{padded}
 use Rattle.store.specs.Places.{recordAt}
 use Rattle.session.specs.State.{lastAt}
-use Rattle.isolation.specs.Platform.{World, Step, opens, outcome, picks, partOf}
+use Rattle.isolation.specs.Platform.{World, Step, opens, of, partOf}
 use Rattle.isolation.specs.History.{after}
-use Rattle.answers.specs.Answer.{Octets, Outcome}
-use Rattle.answers.specs.Answer as A
+use Rattle.answers.specs.Answer.{Octets, Question, outcome, pick, numbered}
 use Rattle.centre.specs.Centre.{centre, step}
 use Rattle.twelve.specs.Computed.{computed}
 use Rattle.twelve.specs.Requests.{plant, other, office, mobile, hello, stamp, twoAccounts, pdu, bind, submission, query, sends}
 use Rattle.twelve.specs.Examples.{held, bound, answers}
 
 -- a submission with this sequence, on a session
-abbrev pub submits : ℕ → ℕ → Step Octets Outcome
+abbrev pub submits : ℕ → ℕ → Step Octets Question
 submits session sequence = sends session (pdu 4 sequence submission)
 
 -- ---- the first accepted submit, P8
@@ -84,7 +83,7 @@ apart-lasts = refl
 -- ---- the longest reply: a query of a finished message
 
 abbrev pub delivered : World
-delivered = step twoAccounts stored (outcome 0 (record { stamp = stamp; id = 1; state = 2; error = 7 })) .world
+delivered = step twoAccounts stored (of 0 (outcome (record { stamp = stamp; id = 1; state = 2; error = 7 }))) .world
 
 -- id, final date, wire state 1 and error code 7: 44 octets, all of the space
 pub longest-reply :
@@ -106,6 +105,6 @@ pub neighbour-spoilt :
 unfolding computed
 neighbour-spoilt = refl
 
-pub itself-spoilt : step twoAccounts spoilt (picks 1) .answer ≡ A.picked 9 []
+pub itself-spoilt : step twoAccounts spoilt (of 1 pick) .answer ≡ numbered 9
 unfolding computed
 itself-spoilt = refl

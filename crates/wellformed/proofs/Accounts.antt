@@ -27,7 +27,7 @@ use Rattle.source.specs.Source.{noAddress, known}
 use Rattle.submit.specs.Submit.{Submitted, submitted, toReplace}
 use Rattle.account.specs.Cancel.{Changed, deleted, deletedIf, cancellable, cancelled}
 use Rattle.account.specs.Replace.{correctionOf, replaced}
-use Rattle.account.specs.Outcome.{reported}
+use Rattle.account.specs.Outcome.{Reported, reported}
 use Rattle.wellformed.specs.Effects.{submission, submitter, replacement, replacer, submittedRecord}
 use Rattle.wellformed.specs.Good.{Good, GoodPart}
 use Rattle.wellformed.proofs.Cases.{submitted-cases, cancelled-cases, replaced-cases, reported-cases}
@@ -120,7 +120,7 @@ module _ (book part : List ℕ) (last : ℕ) (whole : length part ≡ partSize) 
 
     pub reported-ok : (id state error : ℕ) → 2 ≤ state → state ≤ 5 → (state ≡ 4 → ⊥) → accountOk book last (reported stamp id state error part .part) ≡ true
     reported-ok id state error low high ne =
-        reported-cases stamp part (λ (r : Changed). Ok last (r .part)) (λ _ _. ok) id state error
+        reported-cases stamp part (λ (r : Reported). Ok last (r .part)) ok id state error
         (λ k e. finished-ok state error low high (λ four. absurd (ne four)) k (found-place (hasId id) idOf part k e))
 
     deleted-follows : (source destination : List ℕ) (k : ℕ) → k < places → Follows last (recordAt k part) (deletedIf source destination stamp (recordAt k part))

@@ -23,7 +23,7 @@ use Rattle.source.specs.Source.{noAddress, known}
 use Rattle.submit.specs.Submit.{Submitted, refused, submitted, stored, added, toReplace}
 use Rattle.account.specs.Cancel.{Changed, changed, deletedIf, cancellable, cancelledBy, cancelledOne, cancelledAll, cancelled}
 use Rattle.account.specs.Replace.{replaced, replacedIn}
-use Rattle.account.specs.Outcome.{reported}
+use Rattle.account.specs.Outcome.{Reported, told, reported}
 use Rattle.wellformed.specs.Effects.{submission, submitter, retextedAt, addedAt, cancellation, canceller, deletedAt, deletedAll, replacement, replacer, correctedAt, finishedAt}
 
 -- a place that is looked for
@@ -72,11 +72,11 @@ module _ (stamp part : List ℕ) (P : Changed → Type 0) (refuses : (status : �
   unfolding cancelled
   cancelled-cases book body one all = read-cases P (cancelOf body .status) _ _ (refuses _) λ _. by-id _ _ _ one all
 
-  pub reported-cases : (id state error : ℕ) → ((k : ℕ) → placeOf id part ≡ At k → waiting (recordAt k part) ≡ true → P (finishedAt stamp state error part k))
-      → P (reported stamp id state error part)
-  unfolding reported
-  reported-cases id state error one =
-      found-cases P _ _ _ (λ k e. if-cases P _ _ _ (one k e) λ _. refuses 10 (omega arith)) λ _. refuses 10 (omega arith)
+pub reported-cases : (stamp part : List ℕ) (P : Reported → Type 0) → P (told false part) → (id state error : ℕ)
+    → ((k : ℕ) → placeOf id part ≡ At k → waiting (recordAt k part) ≡ true → P (finishedAt stamp state error part k))
+    → P (reported stamp id state error part)
+unfolding reported
+reported-cases stamp part P none id state error one = found-cases P _ _ _ (λ k e. if-cases P _ _ _ (one k e) λ _. none) λ _. none
 
 module _ (part : List ℕ) (P : Changed → Type 0) (refuses : (status : ℕ) → (status ≡ 0 → ⊥) → P (changed status part)) where
   pub replaced-cases : (book body : List ℕ)

@@ -19,7 +19,7 @@ use Rattle.source.specs.Source.{known}
 use Rattle.submit.specs.Submit.{Submitted, submitted, toReplace}
 use Rattle.account.specs.Cancel.{Changed, deleted, deletedIf, cancelled}
 use Rattle.account.specs.Replace.{correctionOf, replaced}
-use Rattle.account.specs.Outcome.{reported}
+use Rattle.account.specs.Outcome.{Reported, reported}
 use Rattle.wellformed.specs.Effects.{submission, submitter, submittedRecord, cancellation, canceller, replacement}
 use Rattle.wellformed.proofs.Cases.{submitted-cases, cancelled-cases, replaced-cases, reported-cases}
 use Rattle.wellformed.proofs.Changes.{finished-length, retexted-length, corrected-length}
@@ -47,7 +47,7 @@ module _ (part : List ℕ) (j : ℕ) where
 
   pub reported-elsewhere : (stamp : List ℕ) (id state error : ℕ) → (placeOf id part ≡ At j → ⊥) → recordAt j (reported stamp id state error part .part) ≡ recordAt j part
   reported-elsewhere stamp id state error ne =
-      reported-cases stamp part (λ (r : Changed). Kept (r .part)) (λ _ _. refl) id state error λ k e _.
+      reported-cases stamp part (λ (r : Reported). Kept (r .part)) refl id state error λ k e _.
       elsewhere _ (finished state error stamp) k ne e (omega (arith, finished-length state error stamp (recordAt k part), record-within k part))
 
   pub replaced-elsewhere : (book body : List ℕ) → (known (replacement body .id) part ≡ At j → ⊥) → recordAt j (replaced book body part .part) ≡ recordAt j part

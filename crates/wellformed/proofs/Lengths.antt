@@ -9,7 +9,7 @@ use Rattle.store.specs.Places.{recordAt, onPlace, onPlaces}
 use Rattle.submit.specs.Submit.{Submitted, submitted}
 use Rattle.account.specs.Cancel.{Changed, cancelled}
 use Rattle.account.specs.Replace.{replaced}
-use Rattle.account.specs.Outcome.{reported}
+use Rattle.account.specs.Outcome.{Reported, reported}
 use Rattle.wellformed.proofs.Cases.{submitted-cases, cancelled-cases, replaced-cases, reported-cases}
 
 pub onPlace-length : (f : List ℕ → List ℕ) (k : ℕ) (part : List ℕ) → length (onPlace f k part) ≡ length part
@@ -39,6 +39,5 @@ module _ (part : List ℕ) where
   replaced-length book body = replaced-cases part Keeps (λ _ _. refl) book body (λ _ _ _. patch-length part _ _)
 
   pub reported-length : (stamp : List ℕ) (id state error : ℕ) → length (reported stamp id state error part .part) ≡ length part
-  unfolding Keeps
   reported-length stamp id state error =
-      reported-cases stamp part Keeps (λ _ _. refl) id state error (λ _ _ _. patch-length part _ _)
+      reported-cases stamp part (λ (r : Reported). length (r .part) ≡ length part) refl id state error (λ _ _ _. patch-length part _ _)

@@ -19,7 +19,7 @@ use Rattle.forms.specs.declared.text.Form.{Form}
 use Rattle.forms.specs.declared.text.Form.the-variants.{Ascii, Digits, Address, AddressOrNone}
 use Rattle.forms.proofs.ClassLaws.{lead-within, within-low}
 use Rattle.records.specs.Record.{addressOk}
-use Rattle.records.specs.Book.{bookRecordSize, systemOf, passwordOf, kindOf, callbackOf, endedText, bookOk, usedOk}
+use Rattle.records.specs.Book.{bookRecordSize, systemOf, passwordOf, systemTypeOf, callbackOf, endedText, bookOk, usedOk}
 use Rattle.source.specs.Source.{noAddress, sourceFor}
 use Rattle.wellformed.specs.Rules.{Addressed}
 use Rattle.wellformed.proofs.GoodIs.{both, or-second}
@@ -89,7 +89,7 @@ digits-address field h =
 book-digits : (book : List ℕ) → bookOk book ≡ true → endedText Digits (part 40 21 book) ≡ true
 unfolding bookOk
 book-digits book h =
-    let names = endedText Ascii (systemOf book) && endedText Ascii (passwordOf book) && endedText Ascii (kindOf book) in
+    let names = endedText Ascii (systemOf book) && endedText Ascii (passwordOf book) && endedText Ascii (systemTypeOf book) in
     let callback = endedText Digits (part 40 21 book) in
     and-right names callback (and-left (names && callback) (zeros (part 61 3 book)) h)
 

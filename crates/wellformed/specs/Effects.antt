@@ -1,5 +1,6 @@
 -- What an effect of an account can come to besides a refusal, by name.
 use Prim.Native.Nat.{ℕ, _+_}
+use mathlib.Core.Bool.{true}
 use mathlib.Core.List.{List}
 use Rattle.forms.specs.declared.text.MessageId.the-variants.{Number}
 use Rattle.wire.specs.Fields.{octetsOf}
@@ -16,6 +17,7 @@ use Rattle.source.specs.Source.{sourceFor}
 use Rattle.submit.specs.Submit.{Submitted, fieldsOf}
 use Rattle.account.specs.Cancel.{Changed, changed, deleted, deletedIf}
 use Rattle.account.specs.Replace.{correctionOf}
+use Rattle.account.specs.Outcome.{Reported, told}
 
 -- ---- submit_sm
 
@@ -80,5 +82,5 @@ correctedAt body part k = changed 0 (onPlace (corrected (correctionOf (replaceme
 
 -- ---- an outcome
 
-abbrev pub finishedAt : List ℕ → ℕ → ℕ → List ℕ → ℕ → Changed
-finishedAt stamp state error part k = changed 0 (onPlace (finished state error stamp) k part)
+abbrev pub finishedAt : List ℕ → ℕ → ℕ → List ℕ → ℕ → Reported
+finishedAt stamp state error part k = told true (onPlace (finished state error stamp) k part)

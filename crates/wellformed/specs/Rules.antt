@@ -7,13 +7,13 @@ use mathlib.Core.List.{List}
 use lib.ListN.{length}
 use Rattle.octets.specs.Stretch.{part, every, zeros}
 use Rattle.forms.specs.Class.{inClass}
-use Rattle.forms.specs.Text.{formed}
+use Rattle.forms.specs.Text.{longestText, formed}
 use Rattle.forms.specs.Time.{sentTime}
 use Rattle.forms.specs.Field.{isField}
 use Rattle.forms.specs.declared.class.Class.the-variants.{NotNul}
 use Rattle.forms.specs.declared.text.Form.{Form}
 use Rattle.forms.specs.declared.text.Form.the-variants.{Ascii, AddressOrNone}
-use Rattle.wire.specs.Fields.{Inside, octetsOf, longestText}
+use Rattle.wire.specs.Fields.{Inside, octetsOf}
 use Rattle.wire.specs.declared.fields.Span.{Span}
 use Rattle.requests.specs.declared.submit.Submit.{Submit}
 use Rattle.requests.specs.declared.replace.Replace.{Replace}

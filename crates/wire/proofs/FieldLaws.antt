@@ -8,9 +8,10 @@ use borrow.Author.Tests.{ltb-false}
 use Rattle.octets.specs.Stretch.{patch, padded}
 use Rattle.octets.proofs.PatchLaws.{patch-zeros}
 use Rattle.octets.proofs.StretchLaws.{if-cases}
+use Rattle.forms.specs.Text.{longestText}
 use Rattle.wire.specs.Status.{invalidMessageLength, invalidParameter}
 use Rattle.wire.specs.Cursor.{notBoth}
-use Rattle.wire.specs.Fields.{octetAt, spanAt, shortAt, longestText}
+use Rattle.wire.specs.Fields.{octetAt, spanAt, shortAt}
 use Rattle.wire.specs.declared.cursor.Cursor.{Cursor}
 use Rattle.wire.specs.declared.fields.OctetRead.{OctetRead}
 use Rattle.wire.specs.declared.fields.SpanRead.{SpanRead}

@@ -6,12 +6,13 @@ use lib.ListN.{length, getD, take, drop, replicate}
 use lib.Dec.{ltb, leb, eqb}
 use Rattle.octets.specs.Choice.{if_then_else_}
 use Rattle.octets.specs.Stretch.{part, padded}
+use Rattle.octets.specs.Lent.{Lent, lentPart}
 use Rattle.forms.specs.Class.{inClass, lead}
 use Rattle.forms.specs.declared.class.Class.the-variants.{NotNul}
 use Rattle.forms.specs.declared.text.Form.{Form}
 use Rattle.forms.specs.declared.text.Form.the-variants.{AddressOrNone, MessageIdOrNone}
-use Rattle.forms.specs.Text.{empty, formed, messageId}
-use Rattle.forms.specs.Time.{sentTime}
+use Rattle.forms.specs.Text.{longestText, empty, formed, messageId}
+use Rattle.forms.specs.Time.{timeLength, sentTime}
 use Rattle.wire.specs.Status.{invalidMessageLength, invalidCommandLength, invalidParameter, invalidMessageId}
 use Rattle.wire.specs.Cursor.{refused, refuse, beyond, notBoth}
 use Rattle.wire.specs.declared.cursor.Cursor.{Cursor}
@@ -63,6 +64,10 @@ Inside span body = span .from + span .len ≤ length body
 abbrev pub octetsOf : Span → List ℕ → List ℕ
 octetsOf span body = part (span .from) (span .len) body
 
+-- the same where they stand: as that part of the received octets, not a copy
+abbrev pub spanPart : Span → Lent → Lent
+spanPart span body = lentPart (span .from) (span .len) body
+
 -- ---- an address: ton, npi, and the number in 20 octets, zeros behind it
 
 unfoldable pub addressAt : ℕ → List ℕ → Cursor → AddressRead
@@ -85,7 +90,7 @@ idAt body c =
 -- ---- a time: one NUL, or 16 characters and NUL. A first octet that isn't NUL with fewer than 17 left is status 2.
 
 abbrev pub noTime : Cursor → TimeRead
-noTime next = record { value = record { octets = replicate 16 0 }; next = next }
+noTime next = record { value = record { octets = replicate timeLength 0 }; next = next }
 
 unfoldable pub timeAt : List ℕ → Cursor → TimeRead
 timeAt body c =
@@ -93,15 +98,12 @@ timeAt body c =
     if refused c then noTime c
     else if empty left then noTime (refuse c invalidCommandLength)
     else if eqb (getD left 0 0) 0 then noTime (beyond c 1)
-    else if ltb (length left) 17 then noTime (refuse c invalidCommandLength)
-    else if sentTime (take 16 left) && eqb (getD left 16 0) 0
-    then record { value = record { octets = take 16 left }; next = beyond c 17 }
+    else if ltb (length left) (timeLength + 1) then noTime (refuse c invalidCommandLength)
+    else if sentTime (take timeLength left) && eqb (getD left timeLength 0) 0
+    then record { value = record { octets = take timeLength left }; next = beyond c (timeLength + 1) }
     else noTime (refuse c invalidParameter)
 
 -- ---- sm_length and the short message, as that part of the body. sm_length above 140: 1, then sm_length and default id both non-zero: 9.
-
-abbrev pub longestText : ℕ
-longestText = 140
 
 unfoldable pub spanAt : ℕ → List ℕ → Cursor → SpanRead
 spanAt n body c =

@@ -2,14 +2,18 @@
 use crate::cursor::Cursor;
 use crate::status;
 use forms::class::Class;
+use forms::field;
+use forms::text;
 use forms::text::Form;
 use forms::text::MessageId;
+use forms::time;
 ghost use mathlib.Core.Path.{_≡_};
 ghost use Prim.Native.Nat.{_+_, _-_, _≤_};
-ghost use Rattle.octets.specs.Stretch.{part};
-ghost use Rattle.wire.specs.Fields.{Inside, noSpan, noTime, octetAt, textAt, addressAt, timeAt, idAt, spanAt, shortAt};
+ghost use Rattle.octets.specs.Lent.{lent};
+ghost use Rattle.wire.specs.Fields.{Inside, spanPart, noSpan, noTime, octetAt, textAt, addressAt, timeAt, idAt, spanAt, shortAt};
 
-pub const LONGEST_TEXT: u8 = 140;
+// A time's characters and their NUL.
+const TIME_FIELD: usize = time::LENGTH + 1;
 
 pub struct OctetRead {
     pub value: u8,
@@ -61,7 +65,7 @@ pub struct SpanRead {
 // The octets of the body that a span names: that part of the body itself.
 pub fn octets_of(body: &[u8], span: Span) -> &[u8]
     requires { ⌜ Inside span (now body) ⌝ }
-    ensures { λ r. ⌜ now r ≡ part (span .from) (span .len) (now (body .entry)) ⌝ }
+    ensures { λ r. ⌜ lent r ≡ spanPart span (lent (body .entry)) ⌝ }
 {
     let from = span.from;
     let end = from + span.len;
@@ -94,7 +98,7 @@ pub fn read_text(body: &[u8], c: Cursor, form: Form, most: usize, bad: u8) -> Sp
         }
         return no_span(c.refuse(bad));
     }
-    if !forms::text::is_formed(octets::stretch::first(window, n), form) {
+    if !text::is_formed(octets::stretch::first(window, n), form) {
         return no_span(c.refuse(bad));
     }
     SpanRead {
@@ -108,7 +112,7 @@ pub fn read_text(body: &[u8], c: Cursor, form: Form, most: usize, bad: u8) -> Sp
 
 // Type of number, numbering plan, and the address in 20 octets, zeros behind it; all 20 are zero where none is given.
 pub struct Address {
-    pub octets: [u8; 22],
+    pub octets: [u8; field::ADDRESS_SIZE],
 }
 
 pub struct AddressRead {
@@ -126,7 +130,7 @@ pub fn read_address(body: &[u8], c: Cursor, bad: u8) -> AddressRead
     let number = read_text(body, c2, Form::AddressOrNone, 21, bad);
     let span = number.value;
     let next = number.next;
-    let mut octets = [0u8; 22];
+    let mut octets = [0u8; field::ADDRESS_SIZE];
     octets[0] = ton.value;
     octets[1] = npi.value;
     octets::stretch::put(&mut octets, 2, octets_of(body, span));
@@ -144,22 +148,22 @@ pub struct IdRead {
 pub fn read_id(body: &[u8], c: Cursor) -> IdRead
     ensures { λ r. ⌜ r ≡ idAt (now (body .entry)) c ⌝ }
 {
-    let text = read_text(
+    let id = read_text(
         body,
         c,
         Form::MessageIdOrNone,
         9,
         status::INVALID_MESSAGE_ID,
     );
-    let span = text.value;
-    let next = text.next;
-    let value = forms::text::message_id(octets_of(body, span));
+    let span = id.value;
+    let next = id.next;
+    let value = text::message_id(octets_of(body, span));
     IdRead { value, next }
 }
 
 // A time's 16 characters, or zeros where none is given.
 pub struct Time {
-    pub octets: [u8; 16],
+    pub octets: [u8; time::LENGTH],
 }
 
 pub struct TimeRead {
@@ -171,7 +175,9 @@ fn no_time(next: Cursor) -> TimeRead
     ensures { λ r. ⌜ r ≡ noTime next ⌝ }
 {
     TimeRead {
-        value: Time { octets: [0u8; 16] },
+        value: Time {
+            octets: [0u8; time::LENGTH],
+        },
         next,
     }
 }
@@ -194,17 +200,17 @@ pub fn read_time(body: &[u8], c: Cursor) -> TimeRead
             status: status::OK,
         });
     }
-    if left.len() < 17 {
+    if left.len() < TIME_FIELD {
         return no_time(c.refuse(status::INVALID_COMMAND_LENGTH));
     }
-    let time = octets::stretch::first(left, 16);
-    if forms::time::is_sent_time(time) & (left[16] == 0) {
-        let mut octets = [0u8; 16];
-        octets::stretch::put(&mut octets, 0, time);
+    let sent = octets::stretch::first(left, time::LENGTH);
+    if time::is_sent_time(sent) & (left[time::LENGTH] == 0) {
+        let mut octets = [0u8; time::LENGTH];
+        octets::stretch::put(&mut octets, 0, sent);
         TimeRead {
             value: Time { octets },
             next: Cursor {
-                at: at + 17,
+                at: at + TIME_FIELD,
                 status: status::OK,
             },
         }
@@ -243,7 +249,7 @@ fn read_span(body: &[u8], c: Cursor, len: u8) -> SpanRead
 pub fn read_short(body: &[u8], c: Cursor, default: u8) -> SpanRead
     ensures { λ r. ⌜ (r ≡ shortAt default (now (body .entry)) c) × Inside (r .value) (now (body .entry)) ⌝ }
 {
-    let size = read_octet(body, c, LONGEST_TEXT, status::INVALID_MESSAGE_LENGTH);
+    let size = read_octet(body, c, text::LONGEST_TEXT, status::INVALID_MESSAGE_LENGTH);
     let c1 = size.next;
     let c2 = c1.not_both(size.value, default, status::INVALID_PARAMETER);
     read_span(body, c2, size.value)

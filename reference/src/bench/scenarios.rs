@@ -44,7 +44,11 @@ pub fn scenarios() -> Vec<Scenario> {
             opened(),
             sessions(|session| bind_as(Role::Receiver, session)),
         ),
-        scenario("unbind", bound(), sessions(|s| take(s, Request::Unbind))),
+        scenario(
+            "unbind",
+            submitted(),
+            sessions(|session| take(session, Request::Unbind)),
+        ),
         scenario("enquire_link", submitted(), each(enquire)),
         scenario("submit_sm, empty place", bound(), each(submit)),
         scenario("submit_sm, finished place", finished(), each(submit)),

@@ -4,8 +4,8 @@
 //! feature `proved` only the independent implementation is measured.
 
 use reference::bench::{deepest, scenarios, time, Scenario, Timing};
-use reference::centre::Reference;
 use reference::compare::Engine;
+use reference::engines::engines;
 use std::process::ExitCode;
 use std::time::Duration;
 
@@ -38,18 +38,6 @@ fn main() -> ExitCode {
     }
     print!("{LEGEND}");
     ExitCode::SUCCESS
-}
-
-#[cfg(feature = "proved")]
-fn engines() -> Engines {
-    const REFERENCE: Reference = Reference::sound();
-    vec![&REFERENCE, &reference::proved::Proved]
-}
-
-#[cfg(not(feature = "proved"))]
-fn engines() -> Engines {
-    const REFERENCE: Reference = Reference::sound();
-    vec![&REFERENCE]
 }
 
 fn head(engines: &Engines) {

@@ -23,35 +23,47 @@ fn read_line(book: &mut [u8], line: &str) -> Result<(), String> {
         Some(word) if word.octets == b"account" => {}
         Some(word) => return Err(super::words::unexpected("account", &word)),
     }
-    let number = usize::from(words.octet("an account number")?);
-    if number >= ACCOUNTS {
-        return Err(format!(
-            "expected an account number from 0 to 7, found {number}"
-        ));
-    }
+    let number = account(&mut words)?;
     let record = read_record(words)?;
     book[BOOK_RECORD * number..][..BOOK_RECORD].copy_from_slice(&record);
     Ok(())
 }
 
-fn read_record(mut words: Words) -> Result<[u8; BOOK_RECORD], String> {
-    let mut record = [0; BOOK_RECORD];
-    for (at, longest, what) in [
-        (0, 15, "a system_id"),
-        (16, 8, "a password"),
-        (25, 12, "a system_type"),
-    ] {
-        put(&mut record, at, longest, what, &words.octets(what)?)?;
+/// The number of an account that there is.
+pub fn account(words: &mut Words) -> Result<usize, String> {
+    match usize::from(words.octet("an account number")?) {
+        number if number < ACCOUNTS => Ok(number),
+        number => Err(format!(
+            "expected an account number from 0 to 7, found {number}"
+        )),
     }
-    words.keyword("callback")?;
-    let callback = words.address("a callback address")?;
-    words.end()?;
-    record[38] = callback.ton;
-    record[39] = callback.npi;
-    put(&mut record, 40, 20, "a callback address", &callback.text)?;
+}
+
+fn read_record(words: Words) -> Result<[u8; BOOK_RECORD], String> {
+    let record = record(words, 1)?;
     if !BookRecord(&record).is_well_formed() {
         return Err("expected ASCII names and a callback address of 1 to 20 digits".to_string());
     }
+    Ok(record)
+}
+
+/// Lays out a record, and leaves so many octets free at the end of each text.
+pub fn record(mut words: Words, free: usize) -> Result<[u8; BOOK_RECORD], String> {
+    let mut record = [0; BOOK_RECORD];
+    for (at, size, what) in [
+        (0, 16, "a system_id"),
+        (16, 9, "a password"),
+        (25, 13, "a system_type"),
+    ] {
+        put(&mut record, at, size - free, what, &words.octets(what)?)?;
+    }
+    words.keyword("callback")?;
+    let what = "a callback address";
+    let callback = words.address(what)?;
+    words.end()?;
+    record[38] = callback.ton;
+    record[39] = callback.npi;
+    put(&mut record, 40, 21 - free, what, &callback.text)?;
     Ok(record)
 }
 

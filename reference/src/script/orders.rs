@@ -77,24 +77,10 @@ impl Reader {
         words.end()
     }
 
-    fn outcome(&mut self, mut words: Words) -> Result<Order, String> {
-        let account = words.octet("an account number")?;
-        let id = words.id()?;
-        let outcome = outcome_number(words.word(OUTCOMES)?)?;
-        let error = match words.any() {
-            None => 0,
-            Some(word) if word.octets == b"error" => words.octet("an error code")?,
-            Some(word) => return Err(unexpected("\"error\" or the end of the line", &word)),
-        };
-        words.end()?;
+    fn outcome(&mut self, words: Words) -> Result<Order, String> {
         Ok(Order::Outcome {
             stamp: self.stamp,
-            report: RecordedReport {
-                account,
-                id,
-                outcome,
-                error,
-            },
+            report: report(words)?,
         })
     }
 
@@ -107,19 +93,8 @@ impl Reader {
         self.take(session, hex::octets(&digits)?)
     }
 
-    fn request(&mut self, step: &Word, mut words: Words) -> Result<Order, String> {
-        let read = match step.octets.as_slice() {
-            b"bind" => bind,
-            b"submit" => submit,
-            b"query" => query,
-            b"cancel" => cancel,
-            b"replace" => replace,
-            b"unbind" => unbind,
-            b"enquire" => enquire,
-            _ => return Err(unexpected(STEPS, step)),
-        };
-        let session = words.octet("a session number")?;
-        let request = read(words)?;
+    fn request(&mut self, step: &Word, words: Words) -> Result<Order, String> {
+        let (session, request) = request(step, words)?.ok_or_else(|| unexpected(STEPS, step))?;
         let octets = request.octets(self.sequence);
         self.sequence = self.sequence.wrapping_add(1);
         self.take(session, octets)
@@ -140,7 +115,42 @@ impl Reader {
     }
 }
 
-fn only_session(mut words: Words) -> Result<u8, String> {
+/// A request and the session that it is sent on; none where the first word names no request.
+pub fn request(step: &Word, mut words: Words) -> Result<Option<(u8, Request)>, String> {
+    let read = match step.octets.as_slice() {
+        b"bind" => bind,
+        b"submit" => submit,
+        b"query" => query,
+        b"cancel" => cancel,
+        b"replace" => replace,
+        b"unbind" => unbind,
+        b"enquire" => enquire,
+        _ => return Ok(None),
+    };
+    let session = words.octet("a session number")?;
+    Ok(Some((session, read(words)?)))
+}
+
+/// An account, an id, an outcome and an error code.
+pub fn report(mut words: Words) -> Result<RecordedReport, String> {
+    let account = words.octet("an account number")?;
+    let id = words.id()?;
+    let outcome = outcome_number(words.word(OUTCOMES)?)?;
+    let error = match words.any() {
+        None => 0,
+        Some(word) if word.octets == b"error" => words.octet("an error code")?,
+        Some(word) => return Err(unexpected("\"error\" or the end of the line", &word)),
+    };
+    words.end()?;
+    Ok(RecordedReport {
+        account,
+        id,
+        outcome,
+        error,
+    })
+}
+
+pub fn only_session(mut words: Words) -> Result<u8, String> {
     let session = words.octet("a session number")?;
     words.end()?;
     Ok(session)
@@ -194,7 +204,12 @@ const SUBMIT_OPTIONS: &str = "a text in quotation marks, service, class, protoco
                               schedule, validity, registered, replace, coding, default or the \
                               end of the line";
 
-fn submit(mut words: Words) -> Result<Request, String> {
+fn submit(words: Words) -> Result<Request, String> {
+    submission(words).map(Request::Submit)
+}
+
+/// Source and destination, and then a text and any of the other fields.
+pub fn submission(mut words: Words) -> Result<Submit, String> {
     words.keyword("from")?;
     let source = words.address("a source")?;
     words.keyword("to")?;
@@ -219,7 +234,7 @@ fn submit(mut words: Words) -> Result<Request, String> {
             _ => return Err(unexpected(SUBMIT_OPTIONS, &option)),
         }
     }
-    Ok(Request::Submit(submit))
+    Ok(submit)
 }
 
 fn query(mut words: Words) -> Result<Request, String> {

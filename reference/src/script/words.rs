@@ -10,6 +10,11 @@ pub struct Word {
 }
 
 impl Word {
+    /// Whether it is this word, without a quotation mark.
+    pub fn is(&self, bare: &str) -> bool {
+        !self.quoted && self.octets == bare.as_bytes()
+    }
+
     /// The word as it is shown in a complaint.
     fn shown(&self) -> String {
         format!("\"{}\"", self.octets.escape_ascii())
@@ -37,6 +42,29 @@ impl Words {
     /// The next word, whatever it is.
     pub fn any(&mut self) -> Option<Word> {
         self.words.next()
+    }
+
+    /// The next word if it is this one, bare.
+    pub fn next_if(&mut self, bare: &str) -> bool {
+        let here = self.words.as_slice().first();
+        let found = here.is_some_and(|word| word.is(bare));
+        if found {
+            self.words.next();
+        }
+        found
+    }
+
+    /// What stands before a bare word, and what stands behind it where there is one.
+    pub fn divided_at(self, bare: &str) -> (Words, Option<Words>) {
+        let mut before = self.words.as_slice().to_vec();
+        let behind = before.iter().position(|word| word.is(bare)).map(|at| {
+            let behind = before.split_off(at);
+            behind[1..].to_vec()
+        });
+        let words = |words: Vec<Word>| Words {
+            words: words.into_iter(),
+        };
+        (words(before), behind.map(words))
     }
 
     pub fn word(&mut self, what: &str) -> Result<Word, String> {

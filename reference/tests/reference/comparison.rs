@@ -114,3 +114,11 @@ fn a_seed_gives_the_same_history() {
         assert_ne!(history(7, 300, manner), history(8, 300, manner));
     }
 }
+
+#[test]
+fn a_digest_is_the_same_for_the_same_and_another_where_an_engine_errs() {
+    let digest = |engine: Reference| campaign::digest(&engine, 20_000, 1);
+    let sound = digest(Reference::sound());
+    assert_eq!(sound, digest(Reference::sound()));
+    assert_ne!(sound, digest(Reference::with_fault(Fault::OldTextBehind)));
+}

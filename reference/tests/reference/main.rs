@@ -1,5 +1,6 @@
 //! The independent implementation against the outline, rule by rule.
 
+mod answer;
 mod bureau;
 mod companions;
 mod comparison;
@@ -11,4 +12,6 @@ mod printed;
 #[cfg(feature = "proved")]
 mod proved;
 mod records;
+mod trials;
+mod vectors;
 mod wrapped;

@@ -1,6 +1,7 @@
 -- `bound::write_found` meets its contract. Assumes nothing.
 use denote.Ref.{now}
 use Rattle.octets.specs.Stretch.{part}
+use Rattle.octets.proofs.LentLaws.{held}
 use native.Mathlib.Omega.{arith}
 use mathlib.Core.Path.{ap}
 use lib.ListN.{length, length-take}
@@ -37,13 +38,13 @@ shared-slice-read-error : tie.Need-shared-slice-read-error
 shared-slice-read-error c = search needs
 
 query-requires : tie.Need-query-requires
-query-requires c κs = omega (arith, ap length (c .before .before .before .before .text-of .ensures), simp length-take at (textOf-within (part 233 16 (now (c .before .before .before .before .before .before .before .record-at .result)))))
+query-requires c κs = omega (arith, ap length (held (c .before .before .before .before .text-of .ensures)), simp length-take at (textOf-within (part 233 16 (now (c .before .before .before .before .before .before .before .record-at .result)))))
 
 same-length : tie.Need-same-length
 same-length c = search needs
 
 returns : tie.Need-returns
-returns c = rw (← (c .before .before .before .before .before .before .before .before .before .before .record-at .ensures .0), ← (c .before .before .before .before .before .before .before .before .before .number-at .ensures), ← (c .before .before .before .before .before .before .before .text-of .ensures), ← (c .before .before .before .before .before .wire-state .ensures)) (c .before .before .query .ensures)
+returns c = rw (← (held (c .before .before .before .before .before .before .before .before .before .before .record-at .ensures .0)), ← (c .before .before .before .before .before .before .before .before .before .number-at .ensures), ← (held (c .before .before .before .before .before .before .before .text-of .ensures)), ← (c .before .before .before .before .before .wire-state .ensures)) (c .before .before .query .ensures)
 
 pub write-found-spec : {M : Type 1} → statement M
 write-found-spec =

@@ -4,6 +4,7 @@ use Prim.Native.Nat.{_<_}
 use native.Mathlib.Omega.{arith}
 use borrow.Author.Tests.{eq-eqb, ne-eqb}
 use Rattle.octets.specs.Choice.{if_then_else_}
+use Rattle.octets.proofs.LentLaws.{held}
 use Rattle.store.specs.Places.{Below}
 use Rattle.open.specs.Open.{bindTo}
 use borrow.Author.Needs.{needs}
@@ -40,7 +41,7 @@ not-bound-requires-2 c κs = search needs
 
 returns-2 : tie.Need-returns-2
 unfolding bindTo if_then_else_
-returns-2 c = rw (← (c .before .before .before .before .before .before .before .before .before .before .before .read-bind .ensures .0), eq-eqb _ _ (c .before .before .before .before .before .before .before .before .before .before .if1 .left), ← (c .before .before .before .before .before .octets-of .ensures), ← (c .before .before .before .before .octets-of2 .ensures), sym (c .before .before .before .find-named .ensures .0) ∙ c .before .enum-told .given .1) (c .not-bound2 .ensures)
+returns-2 c = rw (← (c .before .before .before .before .before .before .before .before .before .before .before .read-bind .ensures .0), eq-eqb _ _ (c .before .before .before .before .before .before .before .before .before .before .if1 .left), ← (held (c .before .before .before .before .before .octets-of .ensures)), ← (held (c .before .before .before .before .octets-of2 .ensures)), sym (c .before .before .before .find-named .ensures .0) ∙ c .before .enum-told .given .1) (c .not-bound2 .ensures)
 
 record-of-requires : tie.Need-record-of-requires
 record-of-requires c κs = let b : c .before .found .given .0 .0 < 8 = subst (Below 8) (c .before .found .given .1) (c .before .before .before .find-named .ensures .1) in omega arith
@@ -62,11 +63,11 @@ not-bound-requires-3 c κs = search needs
 
 returns-3 : tie.Need-returns-3
 unfolding bindTo if_then_else_
-returns-3 c = rw (← (c .before .before .before .before .before .before .before .before .before .before .before .before .before .before .before .before .read-bind .ensures .0), eq-eqb _ _ (c .before .before .before .before .before .before .before .before .before .before .before .before .before .before .before .if1 .left), ← (c .before .before .before .before .before .before .before .before .before .before .octets-of .ensures), ← (c .before .before .before .before .before .before .before .before .before .octets-of2 .ensures), sym (c .before .before .before .before .before .before .before .before .find-named .ensures .0) ∙ c .before .before .before .before .before .before .found .given .1, ← (c .before .before .before .octets-of3 .ensures), ← (c .before .before .before .before .record-of .ensures .0), sym (c .before .before .is-password .ensures) ∙ c .before .if2 .taken, c .leg-of .ensures)
+returns-3 c = rw (← (c .before .before .before .before .before .before .before .before .before .before .before .before .before .before .before .before .read-bind .ensures .0), eq-eqb _ _ (c .before .before .before .before .before .before .before .before .before .before .before .before .before .before .before .if1 .left), ← (held (c .before .before .before .before .before .before .before .before .before .before .octets-of .ensures)), ← (held (c .before .before .before .before .before .before .before .before .before .octets-of2 .ensures)), sym (c .before .before .before .before .before .before .before .before .find-named .ensures .0) ∙ c .before .before .before .before .before .before .found .given .1, ← (held (c .before .before .before .octets-of3 .ensures)), ← (held (c .before .before .before .before .record-of .ensures .0)), sym (c .before .before .is-password .ensures) ∙ c .before .if2 .taken, c .leg-of .ensures)
 
 returns-4 : tie.Need-returns-4
 unfolding bindTo if_then_else_
-returns-4 c = rw (← (c .before .before .before .before .before .before .before .before .before .before .before .before .before .before .before .before .read-bind .ensures .0), eq-eqb _ _ (c .before .before .before .before .before .before .before .before .before .before .before .before .before .before .before .if1 .left), ← (c .before .before .before .before .before .before .before .before .before .before .octets-of .ensures), ← (c .before .before .before .before .before .before .before .before .before .octets-of2 .ensures), sym (c .before .before .before .before .before .before .before .before .find-named .ensures .0) ∙ c .before .before .before .before .before .before .found .given .1, ← (c .before .before .before .octets-of3 .ensures), ← (c .before .before .before .before .record-of .ensures .0), sym (c .before .before .is-password .ensures) ∙ c .before .if2 .left) (c .not-bound3 .ensures)
+returns-4 c = rw (← (c .before .before .before .before .before .before .before .before .before .before .before .before .before .before .before .before .read-bind .ensures .0), eq-eqb _ _ (c .before .before .before .before .before .before .before .before .before .before .before .before .before .before .before .if1 .left), ← (held (c .before .before .before .before .before .before .before .before .before .before .octets-of .ensures)), ← (held (c .before .before .before .before .before .before .before .before .before .octets-of2 .ensures)), sym (c .before .before .before .before .before .before .before .before .find-named .ensures .0) ∙ c .before .before .before .before .before .before .found .given .1, ← (held (c .before .before .before .octets-of3 .ensures)), ← (held (c .before .before .before .before .record-of .ensures .0)), sym (c .before .before .is-password .ensures) ∙ c .before .if2 .left) (c .not-bound3 .ensures)
 
 pub bind-to-spec : {M : Type 1} → statement M
 bind-to-spec =

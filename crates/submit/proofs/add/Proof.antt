@@ -5,6 +5,7 @@ use native.Mathlib.Omega.{arith}
 use lib.ListN.{length, length-take}
 use borrow.Author.Tests.{eq-eqb, ne-eqb}
 use Rattle.octets.specs.Choice.{if_then_else_}
+use Rattle.octets.proofs.LentLaws.{held}
 use Rattle.store.specs.Places.{OnePlace}
 use Rattle.submit.specs.Submit.{added}
 use borrow.Author.Needs.{needs}
@@ -50,14 +51,14 @@ octets-of-requires-2 : tie.Need-octets-of-requires-2
 octets-of-requires-2 c κs = search needs
 
 put-new-requires : tie.Need-put-new-requires
-put-new-requires c κs = let b : c .before .before .before .before .before .before .before .found .given .0 .0 < 16 = subst OnePlace (c .before .before .before .before .before .before .before .found .given .1) (c .before .before .before .before .before .before .before .before .before .find-new .ensures .1) in omega (arith, simp length-take at (ap length (c .before .octets-of .ensures)), simp length-take at (ap length (c .octets-of2 .ensures)))
+put-new-requires c κs = let b : c .before .before .before .before .before .before .before .found .given .0 .0 < 16 = subst OnePlace (c .before .before .before .before .before .before .before .found .given .1) (c .before .before .before .before .before .before .before .before .before .find-new .ensures .1) in omega (arith, simp length-take at (ap length (held (c .before .octets-of .ensures))), simp length-take at (ap length (held (c .octets-of2 .ensures))))
 
 same-length-2 : tie.Need-same-length-2
 same-length-2 c = search needs
 
 returns-3 : tie.Need-returns-3
 unfolding added if_then_else_
-returns-3 c = rw (ne-eqb _ _ (c .before .before .before .before .before .before .before .before .before .before .before .before .before .before .if1 .left), sym (c .before .before .before .before .before .before .before .before .before .before .before .before .find-new .ensures .0) ∙ c .before .before .before .before .before .before .before .before .before .before .found .given .1, ← (c .before .before .before .before .octets-of .ensures), ← (c .before .before .before .octets-of2 .ensures), ← (c .before .before .before .before .before .fields-of .ensures), c .before .before .put-new .ensures)
+returns-3 c = rw (ne-eqb _ _ (c .before .before .before .before .before .before .before .before .before .before .before .before .before .before .if1 .left), sym (c .before .before .before .before .before .before .before .before .before .before .before .before .find-new .ensures .0) ∙ c .before .before .before .before .before .before .before .before .before .before .found .given .1, ← (held (c .before .before .before .before .octets-of .ensures)), ← (held (c .before .before .before .octets-of2 .ensures)), ← (c .before .before .before .before .before .fields-of .ensures), c .before .before .put-new .ensures)
 
 pub add-spec : {M : Type 1} → statement M
 add-spec =

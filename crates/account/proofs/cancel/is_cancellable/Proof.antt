@@ -1,4 +1,5 @@
 -- `account::cancel::is_cancellable` meets its contract. Assumes nothing.
+use Rattle.octets.proofs.LentLaws.{held}
 use Rattle.account.specs.Cancel.{cancellable}
 use borrow.Author.Needs.{needs}
 use Rattle.account.proofs.cancel.is_cancellable.Statement.{statement}
@@ -39,7 +40,7 @@ shared-slice-read-result c = search needs
 
 returns : tie.Need-returns
 unfolding cancellable
-returns c = rw (← (c .before .before .before .before .before .before .before .before .record-at .ensures .0), c .before .is-same-address2 .ensures, c .before .before .before .before .is-same-address .ensures)
+returns c = rw (← (held (c .before .before .before .before .before .before .before .before .record-at .ensures .0)), c .before .is-same-address2 .ensures, c .before .before .before .before .is-same-address .ensures)
 
 pub is-cancellable-spec : {M : Type 1} → statement M
 is-cancellable-spec =

@@ -3,6 +3,7 @@ use mathlib.Core.Path.{sym, _∙_, subst}
 use Prim.Native.Nat.{_<_}
 use native.Mathlib.Omega.{arith}
 use Rattle.octets.specs.Choice.{if_then_else_}
+use Rattle.octets.proofs.LentLaws.{held}
 use Rattle.store.specs.Places.{OnePlace}
 use Rattle.account.specs.Query.{lookedUp}
 use borrow.Author.Needs.{needs}
@@ -45,11 +46,11 @@ is-same-address-requires c κs = search needs
 
 returns-2 : tie.Need-returns-2
 unfolding lookedUp if_then_else_
-returns-2 c = (rw (sym (c .before .before .before .before .before .before .before .before .find-known .ensures .0) ∙ c .before .before .before .before .before .before .found .given .1, ← (c .before .before .before .before .record-at .ensures .0), ← (c .before .before .before .before .before .before .before .before .before .before .source-for .ensures), sym (c .before .is-same-address .ensures) ∙ c .if1 .taken), subst OnePlace (c .before .before .before .before .before .before .found .given .1) (c .before .before .before .before .before .before .before .before .find-known .ensures .1))
+returns-2 c = (rw (sym (c .before .before .before .before .before .before .before .before .find-known .ensures .0) ∙ c .before .before .before .before .before .before .found .given .1, ← (held (c .before .before .before .before .record-at .ensures .0)), ← (c .before .before .before .before .before .before .before .before .before .before .source-for .ensures), sym (c .before .is-same-address .ensures) ∙ c .if1 .taken), subst OnePlace (c .before .before .before .before .before .before .found .given .1) (c .before .before .before .before .before .before .before .before .find-known .ensures .1))
 
 returns-3 : tie.Need-returns-3
 unfolding lookedUp if_then_else_
-returns-3 c = (rw (sym (c .before .before .before .before .before .before .before .before .find-known .ensures .0) ∙ c .before .before .before .before .before .before .found .given .1, ← (c .before .before .before .before .record-at .ensures .0), ← (c .before .before .before .before .before .before .before .before .before .before .source-for .ensures), sym (c .before .is-same-address .ensures) ∙ c .if1 .left), tt)
+returns-3 c = (rw (sym (c .before .before .before .before .before .before .before .before .find-known .ensures .0) ∙ c .before .before .before .before .before .before .found .given .1, ← (held (c .before .before .before .before .record-at .ensures .0)), ← (c .before .before .before .before .before .before .before .before .before .before .source-for .ensures), sym (c .before .is-same-address .ensures) ∙ c .if1 .left), tt)
 
 pub look-up-spec : {M : Type 1} → statement M
 look-up-spec =

@@ -1,4 +1,5 @@
 -- `account::replace::is_replaceable` meets its contract. Assumes nothing.
+use Rattle.octets.proofs.LentLaws.{held}
 use borrow.Author.Needs.{needs}
 use Rattle.account.proofs.replace.is_replaceable.Statement.{statement}
 use Rattle.account.proofs.replace.is_replaceable.Tie as tie
@@ -22,7 +23,7 @@ shared-slice-read-result : tie.Need-shared-slice-read-result
 shared-slice-read-result c = search needs
 
 returns : tie.Need-returns
-returns c = rw (← (c .before .before .before .before .record-at .ensures .0), c .before .is-same-address .ensures)
+returns c = rw (← (held (c .before .before .before .before .record-at .ensures .0)), c .before .is-same-address .ensures)
 
 pub is-replaceable-spec : {M : Type 1} → statement M
 is-replaceable-spec =

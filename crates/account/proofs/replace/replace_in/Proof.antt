@@ -5,6 +5,7 @@ use native.Mathlib.Omega.{arith}
 use lib.ListN.{length, length-take}
 use borrow.Author.Tests.{not-true, not-false}
 use Rattle.octets.specs.Choice.{if_then_else_}
+use Rattle.octets.proofs.LentLaws.{held}
 use Rattle.store.specs.Places.{OnePlace}
 use Rattle.account.specs.Replace.{replacedIn}
 use borrow.Author.Needs.{needs}
@@ -41,14 +42,14 @@ octets-of-requires : tie.Need-octets-of-requires
 octets-of-requires c κs = search needs
 
 correct-requires : tie.Need-correct-requires
-correct-requires c κs = let b : c .before .before .before .before .before .before .before .before .before .before .before .found .given .0 .0 < 16 = subst OnePlace (c .before .before .before .before .before .before .before .before .before .before .before .found .given .1) (c .before .before .before .before .before .before .before .before .before .before .before .before .before .find-known .ensures .1) in omega (arith, simp length-take at (ap length (c .octets-of .ensures)))
+correct-requires c κs = let b : c .before .before .before .before .before .before .before .before .before .before .before .found .given .0 .0 < 16 = subst OnePlace (c .before .before .before .before .before .before .before .before .before .before .before .found .given .1) (c .before .before .before .before .before .before .before .before .before .before .before .before .before .find-known .ensures .1) in omega (arith, simp length-take at (ap length (held (c .octets-of .ensures))))
 
 same-length-3 : tie.Need-same-length-3
 same-length-3 c = search needs
 
 returns-3 : tie.Need-returns-3
 unfolding replacedIn if_then_else_
-returns-3 c = rw (sym (c .before .before .before .before .before .before .before .before .before .before .before .before .before .before .before .before .find-known .ensures .0) ∙ c .before .before .before .before .before .before .before .before .before .before .before .before .before .before .found .given .1, sym (c .before .before .before .before .before .before .before .before .before .before .before .is-replaceable .ensures) ∙ not-false _ (c .before .before .before .before .before .before .before .before .before .before .if1 .left), ← (c .before .before .before .octets-of .ensures), c .before .before .correct .ensures)
+returns-3 c = rw (sym (c .before .before .before .before .before .before .before .before .before .before .before .before .before .before .before .before .find-known .ensures .0) ∙ c .before .before .before .before .before .before .before .before .before .before .before .before .before .before .found .given .1, sym (c .before .before .before .before .before .before .before .before .before .before .before .is-replaceable .ensures) ∙ not-false _ (c .before .before .before .before .before .before .before .before .before .before .if1 .left), ← (held (c .before .before .before .octets-of .ensures)), c .before .before .correct .ensures)
 
 pub replace-in-spec : {M : Type 1} → statement M
 replace-in-spec =

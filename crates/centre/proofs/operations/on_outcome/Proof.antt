@@ -32,7 +32,14 @@ same-length-2 c = search needs
 
 returns-3 : tie.Need-returns-3
 unfolding onOutcome if_then_else_
-returns-3 c = rw (sym (c .before .before .before .before .before .before .before .before .is-outcome .ensures) ∙ not-false _ (c .before .before .before .before .before .before .before .if1 .left), sym (c .before .before .before .before .before .is-account-ok .ensures) ∙ not-false _ (c .before .before .before .before .if2 .left), ← (c .before .before .report .ensures))
+returns-3 c = rw (sym (c .before .before .before .before .before .before .before .before .before .is-outcome .ensures) ∙ not-false _ (c .before .before .before .before .before .before .before .before .if1 .left), sym (c .before .before .before .before .before .before .is-account-ok .ensures) ∙ not-false _ (c .before .before .before .before .before .if2 .left), ← (c .before .before .before .report .ensures), c .if3 .taken)
+
+same-length-3 : tie.Need-same-length-3
+same-length-3 c = search needs
+
+returns-4 : tie.Need-returns-4
+unfolding onOutcome if_then_else_
+returns-4 c = rw (sym (c .before .before .before .before .before .before .before .before .before .is-outcome .ensures) ∙ not-false _ (c .before .before .before .before .before .before .before .before .if1 .left), sym (c .before .before .before .before .before .before .is-account-ok .ensures) ∙ not-false _ (c .before .before .before .before .before .if2 .left), ← (c .before .before .before .report .ensures), c .if3 .left)
 
 pub on-outcome-spec : {M : Type 1} → statement M
 on-outcome-spec =
@@ -45,4 +52,6 @@ on-outcome-spec =
     returns-2
     report-requires
     same-length-2
-    returns-3)
+    returns-3
+    same-length-3
+    returns-4)

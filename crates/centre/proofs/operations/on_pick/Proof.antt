@@ -2,7 +2,7 @@
 use mathlib.Core.Path.{sym, _∙_, subst}
 use borrow.Author.Tests.{not-true, not-false}
 use Rattle.octets.specs.Choice.{if_then_else_}
-use Rattle.store.specs.Places.{OnePlace}
+use Rattle.store.specs.Places as Places
 use Rattle.centre.specs.Operations.{onPick}
 use borrow.Author.Needs.{needs}
 use Rattle.centre.proofs.operations.on_pick.Statement.{statement}
@@ -26,7 +26,7 @@ enum-told c = search needs
 
 returns-2 : tie.Need-returns-2
 unfolding onPick if_then_else_
-returns-2 c = (rw (sym (c .before .before .before .before .before .is-account-ok .ensures) ∙ not-false _ (c .before .before .before .before .if1 .left), sym (c .before .before .before .find-next .ensures .0) ∙ c .before .found .given .1), subst OnePlace (c .before .found .given .1) (c .before .before .before .find-next .ensures .1))
+returns-2 c = (rw (sym (c .before .before .before .before .before .is-account-ok .ensures) ∙ not-false _ (c .before .before .before .before .if1 .left), sym (c .before .before .before .find-next .ensures .0) ∙ c .before .found .given .1), subst Places.OnePlace (c .before .found .given .1) (c .before .before .before .find-next .ensures .1))
 
 returns-3 : tie.Need-returns-3
 unfolding onPick if_then_else_

@@ -10,6 +10,7 @@ use borrow.Author.Tests.{eq-eqb, ne-eqb, lt-ltb, le-ltb}
 use Rattle.octets.specs.Choice.{if_then_else_}
 use Rattle.octets.specs.Stretch.{patch}
 use Rattle.octets.proofs.PatchLaws.{part-back}
+use Rattle.octets.proofs.LentLaws.{held}
 use Rattle.session.specs.State.{issued}
 use Rattle.session.specs.declared.State.{State}
 use Rattle.isolation.specs.Platform.{step}
@@ -66,7 +67,7 @@ returns-3 c = let f = c .before .before .before .before .before .before .before 
     let e = rw (add-sub-cancel-left at 4096) at (c .before .before .on-outcome .ensures) in
     let n : length back ≡ 4096 = (rw (add-sub-cancel-left at 4096) at (c .before .before .on-outcome .kept .1 .0)) ∙ part-length at 4096 t (omega (arith, f .tableFits, c .before .before .before .before .before .before .if2 .left)) in
     ap (λ (l : List ℕ). reports (c .before .before .on-outcome .result) (c .before .before .before .before .before .before .before .before .before .before .before .before .args .state) l) (part-back t at 4096 back n (omega (arith, f .tableFits, c .before .before .before .before .before .before .if2 .left)))
-    ∙ rw (← (c .before .before .before .before .before .before .before .before .check-outcome .ensures .0), eq-eqb _ _ (c .before .before .before .before .before .before .before .if1 .left), lt-ltb _ _ (c .before .before .before .before .before .before .if2 .left), ← (c .before .before .before .before .before .record-of .ensures .0), ← (c .before .before .before .before .last .ensures), ← e)
+    ∙ rw (← (c .before .before .before .before .before .before .before .before .check-outcome .ensures .0), eq-eqb _ _ (c .before .before .before .before .before .before .before .if1 .left), lt-ltb _ _ (c .before .before .before .before .before .before .if2 .left), ← (held (c .before .before .before .before .before .record-of .ensures .0)), ← (c .before .before .before .before .last .ensures), ← e)
     (ap (λ (s : State). reports (c .before .before .on-outcome .result) s (patch t at back)) (sym (ap (issued (c .before .before .before .before .before .before .before .before .before .before .before .before .args .state) (c .before .before .before .before .before .before .before .before .before .before .before .before .args .account)) (c .before .before .before .before .last .ensures) ∙ issued-same (c .before .before .before .before .before .before .before .before .before .before .before .before .args .state) (c .before .before .before .before .before .before .before .before .before .before .before .before .args .account))))
 
 pub outcome-spec : {M : Type 1} → statement M

@@ -1,11 +1,13 @@
 -- `centre::operations::pick` meets its contract. Assumes nothing.
-use mathlib.Core.Path.{subst}
-use Prim.Native.Nat.{_+_, _≤_}
+use mathlib.Core.Path.{refl, sym, ap, _∙_, subst}
+use Prim.Native.Nat.{ℕ, _*_}
 use native.Mathlib.Omega.{arith}
-use lib.ListN.{length}
-use Rattle.octets.proofs.StretchLaws.{part-cut}
-use Rattle.centre.specs.Pick.{LocatedInside}
-use Rattle.centre.specs.declared.operations.Located.{Located}
+use Rattle.octets.specs.Stretch.{part}
+use Rattle.octets.specs.Lent.{lent, lentPart}
+use Rattle.octets.proofs.LentLaws.{lent-cut}
+use Rattle.octets.proofs.StretchLaws.{part-cut, part-part}
+use Rattle.centre.specs.Pick.{WithinTable, Inside}
+use Rattle.centre.specs.declared.operations.Placed.{Placed}
 use borrow.Author.Needs.{needs}
 use Rattle.centre.proofs.operations.pick.Statement.{statement}
 use Rattle.centre.proofs.operations.pick.Tie as tie
@@ -19,11 +21,14 @@ enum-told c = search needs
 slice-aggregate-result : tie.Need-slice-aggregate-result
 slice-aggregate-result c = search needs
 
-enum-known-located : tie.Need-enum-known-located
-enum-known-located c = search needs
+enum-known-placed : tie.Need-enum-known-placed
+enum-known-placed c = search needs
+
+start-of-requires : tie.Need-start-of-requires
+start-of-requires c κs = let w : WithinTable (c .before .before .before .before .before .before .args .account) (c .before .placed .given .0 .0) (c .before .before .before .before .before .before .args .table .now) = subst (λ (p : Placed). Inside p (c .before .before .before .before .before .before .args .account) (c .before .before .before .before .before .before .args .table .now)) (c .before .placed .given .1) (c .before .before .before .locate .ensures .1) in (w .accountFits, w .placeFits)
 
 add-result : tie.Need-add-result
-add-result c = let b : c .before .located .given .0 .0 + 256 ≤ length (c .before .before .before .before .before .before .args .table .now) = subst (λ (l : Located). LocatedInside l (c .before .before .before .before .before .before .args .table .now)) (c .before .located .given .1) (c .before .before .before .locate .ensures .1) in omega arith
+add-result c = let w : WithinTable (c .before .before .before .before .before .before .before .args .account) (c .before .before .placed .given .0 .0) (c .before .before .before .before .before .before .before .args .table .now) = subst (λ (p : Placed). Inside p (c .before .before .before .before .before .before .before .args .account) (c .before .before .before .before .before .before .before .args .table .now)) (c .before .before .placed .given .1) (c .before .before .before .before .locate .ensures .1) in omega (arith, c .start-of .ensures, w .accountFits, w .placeFits)
 
 sub-result : tie.Need-sub-result
 sub-result c = search needs
@@ -32,13 +37,20 @@ part-result-start : tie.Need-part-result-start
 part-result-start c = search needs
 
 part-result-end : tie.Need-part-result-end
-part-result-end c = let b : c .before .located .given .0 .0 + 256 ≤ length (c .before .before .before .before .before .before .args .table .now) = subst (λ (l : Located). LocatedInside l (c .before .before .before .before .before .before .args .table .now)) (c .before .located .given .1) (c .before .before .before .locate .ensures .1) in omega arith
+part-result-end c = let w : WithinTable (c .before .before .before .before .before .before .before .args .account) (c .before .before .placed .given .0 .0) (c .before .before .before .before .before .before .before .args .table .now) = subst (λ (p : Placed). Inside p (c .before .before .before .before .before .before .before .args .account) (c .before .before .before .before .before .before .before .args .table .now)) (c .before .before .placed .given .1) (c .before .before .before .before .locate .ensures .1) in omega (arith, c .start-of .ensures, w .accountFits, w .placeFits, w .tableFits)
 
 returns : tie.Need-returns
-returns c = rw (← (c .before .before .before .locate .ensures .0), c .before .enum-told .given .1)
+returns c = rw (← (c .before .before .before .locate .ensures .0), c .before .enum-told .given .1) (refl, refl)
 
 returns-2 : tie.Need-returns-2
-returns-2 c = rw (← (c .before .before .before .before .locate .ensures .0), c .before .before .located .given .1) (part-cut (c .before .before .located .given .0 .0) 256 (c .before .before .before .before .before .before .before .args .table .now))
+returns-2 c = let w : WithinTable (c .before .before .before .before .before .before .before .before .args .account) (c .before .before .before .placed .given .0 .0) (c .before .before .before .before .before .before .before .before .args .table .now) = subst (λ (p : Placed). Inside p (c .before .before .before .before .before .before .before .before .args .account) (c .before .before .before .before .before .before .before .before .args .table .now)) (c .before .before .before .placed .given .1) (c .before .before .before .before .before .locate .ensures .1) in
+    let t = c .before .before .before .before .before .before .before .before .args .table in
+    rw (← (c .before .before .before .before .before .locate .ensures .0), c .before .before .before .placed .given .1) (
+      lent-cut (lent t) (c .before .start-of .result) 256 (omega (arith, c .before .start-of .ensures, w .accountFits, w .placeFits, w .tableFits))
+          ∙ ap (λ (at : ℕ). lentPart at 256 (lent t)) (c .before .start-of .ensures),
+      part-cut (c .before .start-of .result) 256 (t .now) ∙ ap (λ (at : ℕ). part at 256 (t .now)) (c .before .start-of .ensures)
+          ∙ sym (part-part (t .now) (4096 * c .before .before .before .before .before .before .before .before .args .account) 4096 (256 * c .before .before .before .placed .given .0 .0) 256 (omega (arith, w .placeFits))),
+    )
 
 pub pick-spec : {M : Type 1} → statement M
 pick-spec =
@@ -47,7 +59,8 @@ pick-spec =
     locate-requires
     enum-told
     slice-aggregate-result
-    enum-known-located
+    enum-known-placed
+    start-of-requires
     add-result
     sub-result
     part-result-start

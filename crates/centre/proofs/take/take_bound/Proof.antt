@@ -10,6 +10,7 @@ use borrow.Author.Tests.{lt-ltb, le-ltb}
 use Rattle.octets.specs.Choice.{if_then_else_}
 use Rattle.octets.proofs.StretchLaws.{part-length}
 use Rattle.octets.proofs.PatchLaws.{part-back}
+use Rattle.octets.proofs.LentLaws.{held}
 use Rattle.centre.specs.Centre.{act, takes}
 use borrow.Author.Needs.{needs}
 use Rattle.centre.proofs.take.take_bound.Statement.{statement}
@@ -67,7 +68,7 @@ returns-2 c = let at = 4096 * c .before .before .before .before .before .before 
     let e = rw (add-sub-cancel-left at 4096) at (c .before .before .before .before .before .before .on-bound .ensures) in
     let n : length back ≡ 4096 = (rw (add-sub-cancel-left at 4096) at (c .before .before .before .before .before .before .on-bound .kept .1 .1 .1 .1 .1 .0)) ∙ part-length at 4096 t (omega (arith, c .before .before .before .before .before .before .before .before .before .before .before .before .before .before .before .before .before .pre .0 .0 .1, c .before .before .before .before .before .before .before .before .before .before .before .if1 .left)) in
     ap (λ (l : List ℕ). takes r l (c .before .before .before .before .before .before .on-bound .last .1 .1 .1 .1 .0)) (part-back t at 4096 back n (omega (arith, c .before .before .before .before .before .before .before .before .before .before .before .before .before .before .before .before .before .pre .0 .0 .1, c .before .before .before .before .before .before .before .before .before .before .before .if1 .left)))
-    ∙ rw (lt-ltb _ _ (c .before .before .before .before .before .before .before .before .before .before .before .if1 .left), c .before .before .before .before .before .before .before .before .before .before .before .before .before .before .before .before .before .pre .0 .1 .1, ← (c .before .before .before .before .before .before .before .before .before .before .record-of .ensures .0), ← (c .before .before .before .before .before .before .before .before .before .last .ensures), ← e, c .issue .ensures, c .before .settle .ensures)
+    ∙ rw (lt-ltb _ _ (c .before .before .before .before .before .before .before .before .before .before .before .if1 .left), c .before .before .before .before .before .before .before .before .before .before .before .before .before .before .before .before .before .pre .0 .1 .1, ← (held (c .before .before .before .before .before .before .before .before .before .before .record-of .ensures .0)), ← (c .before .before .before .before .before .before .before .before .before .last .ensures), ← e, c .issue .ensures, c .before .settle .ensures)
 
 pub take-bound-spec : {M : Type 1} → statement M
 take-bound-spec =

@@ -1,4 +1,5 @@
 -- `forms::field::is_field` meets its contract. Assumes nothing.
+use Rattle.octets.proofs.LentLaws.{held}
 use borrow.Author.Needs.{needs}
 use Rattle.forms.specs.Field.{textOf, isField}
 use Rattle.forms.proofs.field.is_field.Statement.{statement}
@@ -21,7 +22,7 @@ all-zero-requires c κs = search needs
 
 returns : tie.Need-returns
 unfolding textOf isField
-returns c = rw (← (c .before .before .before .before .lead-of .ensures .0), ← (c .before .before .before .first .ensures), ← (c .before .before .from .ensures), c .all-zero .ensures, c .before .is-formed .ensures)
+returns c = rw (← (c .before .before .before .before .lead-of .ensures .0), ← (held (c .before .before .before .first .ensures)), ← (held (c .before .before .from .ensures)), c .all-zero .ensures, c .before .is-formed .ensures)
 
 pub is-field-spec : {M : Type 1} → statement M
 is-field-spec =

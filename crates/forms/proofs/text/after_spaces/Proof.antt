@@ -1,6 +1,5 @@
 -- `forms::text::after_spaces` meets its contract. Assumes nothing.
 use borrow.Author.Needs.{needs}
-use Rattle.forms.specs.Text.{afterSpaces}
 use Rattle.forms.proofs.text.after_spaces.Statement.{statement}
 use Rattle.forms.proofs.text.after_spaces.Tie as tie
 
@@ -11,7 +10,6 @@ from-requires : tie.Need-from-requires
 from-requires c κs = search needs
 
 returns : tie.Need-returns
-unfolding afterSpaces
 returns c = rw (← (c .before .lead-of .ensures .0)) (c .from .ensures)
 
 pub after-spaces-spec : {M : Type 1} → statement M

@@ -1,5 +1,6 @@
 -- `forms::text::is_formed` meets its contract. Assumes nothing.
-use Rattle.forms.specs.Text.{formed}
+use Rattle.octets.proofs.LentLaws.{held}
+use Rattle.forms.specs.Text.{afterSpaces, formed}
 use borrow.Author.Needs.{needs}
 use Rattle.forms.proofs.text.is_formed.Statement.{statement}
 use Rattle.forms.proofs.text.is_formed.Tie as tie
@@ -52,16 +53,16 @@ unfolding formed
 returns-2 c = rw (c .before .enum-told2 .given .1) (c .is-given .ensures)
 
 returns-3 : tie.Need-returns-3
-unfolding formed
-returns-3 c = rw (c .before .before .enum-told3 .given .1, ← (c .before .after-spaces .ensures)) (c .is-given2 .ensures)
+unfolding afterSpaces formed
+returns-3 c = rw (c .before .before .enum-told3 .given .1, ← (held (c .before .after-spaces .ensures))) (c .is-given2 .ensures)
 
 returns-4 : tie.Need-returns-4
-unfolding formed
-returns-4 c = rw (c .before .before .enum-told4 .given .1, ← (c .before .after-spaces2 .ensures), c .is-given3 .ensures)
+unfolding afterSpaces formed
+returns-4 c = rw (c .before .before .enum-told4 .given .1, ← (held (c .before .after-spaces2 .ensures)), c .is-given3 .ensures)
 
 returns-5 : tie.Need-returns-5
-unfolding formed
-returns-5 c = rw (c .before .before .enum-told5 .given .1, ← (c .before .after-spaces3 .ensures), c .is-given4 .ensures)
+unfolding afterSpaces formed
+returns-5 c = rw (c .before .before .enum-told5 .given .1, ← (held (c .before .after-spaces3 .ensures)), c .is-given4 .ensures)
 
 pub is-formed-spec : {M : Type 1} → statement M
 is-formed-spec =

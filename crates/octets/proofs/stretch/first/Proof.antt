@@ -13,7 +13,7 @@ returns : tie.Need-returns
 returns c = search needs
 
 returns-2 : tie.Need-returns-2
-returns-2 c = sym (take-all (c .before .args .n) (c .before .args .s .now) (omega arith))
+returns-2 c = rw (take-all (c .before .args .n) (c .before .args .s .now) (omega arith))
 
 pub first-spec : {M : Type 1} → statement M
 first-spec = tie.close (tie.spec slice-aggregate-result returns returns-2)

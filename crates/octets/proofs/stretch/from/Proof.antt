@@ -1,6 +1,7 @@
 -- `octets::stretch::from` meets its contract. Assumes nothing.
 use native.Mathlib.Omega.{arith}
-use Rattle.octets.proofs.StretchLaws.{drop-cut, drop-past}
+use Rattle.octets.specs.Lent.{lent}
+use Rattle.octets.proofs.LentLaws.{lent-from, lent-end}
 use borrow.Author.Needs.{needs}
 use Rattle.octets.proofs.stretch.from.Statement.{statement}
 use Rattle.octets.proofs.stretch.from.Tie as tie
@@ -24,10 +25,10 @@ part-result-end-2 : tie.Need-part-result-end-2
 part-result-end-2 c = search needs
 
 returns : tie.Need-returns
-returns c = drop-cut (c .before .before .args .at) (c .before .before .args .s .now)
+returns c = lent-from (lent (c .before .before .args .s)) (c .before .before .args .at) (omega arith)
 
 returns-2 : tie.Need-returns-2
-returns-2 c = drop-past (c .before .before .args .at) (c .before .before .args .s .now) (omega arith)
+returns-2 c = lent-end (lent (c .before .before .args .s)) (c .before .before .args .at) (omega arith)
 
 pub from-spec : {M : Type 1} → statement M
 from-spec =

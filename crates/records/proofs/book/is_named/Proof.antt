@@ -2,6 +2,7 @@
 use mathlib.Core.Path.{_≡_, sym, ap, _∙_}
 use mathlib.Core.Bool.{Bool, true, false, _&&_}
 use Rattle.octets.proofs.StretchLaws.{and-assoc, and-true, and-false}
+use Rattle.octets.proofs.LentLaws.{held}
 use Rattle.records.specs.Book.{usedOk, named}
 use borrow.Author.Needs.{needs}
 use Rattle.records.proofs.book.is_named.Statement.{statement}
@@ -50,13 +51,13 @@ is-used-ok-requires c κs = search needs
 returns : tie.Need-returns
 unfolding named
 returns c =
-    rw (c .is-used-ok .ensures, ← (c .before .before .before .before .before .before .text-of .ensures), ← (c .before .before .before .text-of2 .ensures))
+    rw (c .is-used-ok .ensures, ← (held (c .before .before .before .before .before .before .text-of .ensures)), ← (held (c .before .before .before .text-of2 .ensures)))
     (last-of-three _ _ _ (rw (c .before .before .before .before .before .is-same-name .ensures, c .before .before .is-same-name2 .ensures) at (c .before .if1 .taken)))
 
 returns-2 : tie.Need-returns-2
 unfolding named
 returns-2 c =
-    rw (← (c .before .before .before .before .before .text-of .ensures), ← (c .before .before .text-of2 .ensures))
+    rw (← (held (c .before .before .before .before .before .text-of .ensures)), ← (held (c .before .before .text-of2 .ensures)))
     (none-of-three (usedOk (c .before .before .before .before .before .before .before .before .before .before .args .b .now)) _ _ (rw (c .before .before .before .before .is-same-name .ensures, c .before .is-same-name2 .ensures) at (c .if1 .left)))
 
 pub is-named-spec : {M : Type 1} → statement M

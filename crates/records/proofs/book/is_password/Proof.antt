@@ -1,4 +1,5 @@
 -- `records::book::is_password` meets its contract. Assumes nothing.
+use Rattle.octets.proofs.LentLaws.{held}
 use Rattle.records.specs.Book.{passwordIs}
 use borrow.Author.Needs.{needs}
 use Rattle.records.proofs.book.is_password.Statement.{statement}
@@ -21,7 +22,7 @@ is-same-requires c κs = search needs
 
 returns : tie.Need-returns
 unfolding passwordIs
-returns c = rw (← (c .before .text-of .ensures)) (c .is-same .ensures)
+returns c = rw (← (held (c .before .text-of .ensures))) (c .is-same .ensures)
 
 pub is-password-spec : {M : Type 1} → statement M
 is-password-spec =

@@ -1,5 +1,6 @@
 -- `records::record::is_text_ok` meets its contract. Assumes nothing.
 use native.Mathlib.Omega.{arith}
+use Rattle.octets.proofs.LentLaws.{held}
 use Rattle.records.specs.Record.{textOk}
 use borrow.Author.Needs.{needs}
 use Rattle.records.proofs.record.is_text_ok.Statement.{statement}
@@ -31,7 +32,7 @@ all-zero-requires c κs = search needs
 
 returns : tie.Need-returns
 unfolding textOk
-returns c = rw (← (c .before .from .ensures), c .all-zero .ensures)
+returns c = rw (← (held (c .before .from .ensures)), c .all-zero .ensures)
 
 pub is-text-ok-spec : {M : Type 1} → statement M
 is-text-ok-spec =

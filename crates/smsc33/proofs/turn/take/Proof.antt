@@ -1,6 +1,7 @@
 -- `smsc33::turn::take` meets its contract. Assumes nothing.
 use native.Mathlib.Omega.{arith}
 use lib.ListN.{length-take}
+use Rattle.octets.proofs.LentLaws.{held}
 use Rattle.lines.proofs.TextLaws.{told-is, told-fits}
 use Rattle.lines.specs.Line.{line}
 use borrow.Author.Needs.{needs}
@@ -20,7 +21,7 @@ first-requires : tie.Need-first-requires
 first-requires c κs = search needs
 
 put-line-requires : tie.Need-put-line-requires
-put-line-requires c κs = (rw (c .before .first .ensures, length-take) (omega (arith, slice-aggregate-first (c .before .before))), c .before .before .before .before .before .before .before .before .before .before .before .before .before .before .before .pre)
+put-line-requires c κs = (rw (held (c .before .first .ensures), length-take) (omega (arith, slice-aggregate-first (c .before .before))), c .before .before .before .before .before .before .before .before .before .before .before .before .before .before .before .pre)
 
 same-length : tie.Need-same-length
 same-length c = search needs
@@ -34,7 +35,7 @@ returns c =
     let l = line (c .before .before .before .before .before .before .before .before .before .before .take .result .number) (c .before .before .before .before .before .before .before .before .before .before .take .result .consumed) (c .before .before .before .before .first .result .now) in
     let e = told-is t l (c .before .before .put-line .ensures .0) (c .before .before .put-line .ensures .1) (omega (arith, c .before .before .put-line .ensures .2, c .before .before .before .before .before .before .before .before .before .before .before .before .before .before .before .before .before .before .pre)) in
     let fits = told-fits t l (c .before .before .put-line .ensures .0) (c .before .before .put-line .ensures .1) (omega (arith, c .before .before .put-line .ensures .2, c .before .before .before .before .before .before .before .before .before .before .before .before .before .before .before .before .before .before .pre)) in
-    (simp (← c .before .before .before .before .before .before .before .before .before .before .take .ensures, e, c .before .before .before .before .first .ensures), fits)
+    (simp (← c .before .before .before .before .before .before .before .before .before .before .take .ensures, e, held (c .before .before .before .before .first .ensures)), fits)
 
 pub take-spec : {M : Type 1} → statement M
 take-spec =

@@ -4,6 +4,7 @@ use mathlib.Core.Bool.{_&&_}
 use Prim.Native.Nat.{_≤_, _-_}
 use native.Mathlib.Omega.{arith}
 use Rattle.octets.specs.Stretch.{every}
+use Rattle.octets.proofs.LentLaws.{held}
 use Rattle.records.specs.Record.{recordOk}
 use Rattle.store.specs.Places.{records}
 use Rattle.store.proofs.PlacesLaws.{from, every-more, every-done}
@@ -32,7 +33,7 @@ loop-less : tie.Need-loop-less Inv-loop μ-loop
 loop-less c = omega arith
 
 loop-again : tie.Need-loop-again Inv-loop μ-loop
-loop-again c = (omega arith, rw (c .is-record-ok .ensures, c .before .record-at .ensures .0) (c .before .before .before .loop .inv .1 ∙ every-more (c .before .before .before .loop .k) (c .before .before .before .before .before .args .part .now) (c .before .before .loop-test .taken) (recordOk (c .before .before .before .before .before .args .last)) (c .before .before .before .loop .ok)))
+loop-again c = (omega arith, rw (c .is-record-ok .ensures, held (c .before .record-at .ensures .0)) (c .before .before .before .loop .inv .1 ∙ every-more (c .before .before .before .loop .k) (c .before .before .before .before .before .args .part .now) (c .before .before .loop-test .taken) (recordOk (c .before .before .before .before .before .args .last)) (c .before .before .before .loop .ok)))
 
 returns : tie.Need-returns Inv-loop μ-loop
 returns c = sym (c .before .loop .inv .1 ∙ every-done (c .before .loop .k) (c .before .before .before .args .part .now) (c .loop-test .left) (recordOk (c .before .before .before .args .last)) (c .before .loop .ok))

@@ -1,4 +1,5 @@
 -- `store::account::is_apart` meets its contract. Assumes nothing.
+use Rattle.octets.proofs.LentLaws.{held}
 use borrow.Author.Tests.{eq-eqb, ne-eqb}
 use borrow.Author.Needs.{needs}
 use Rattle.store.proofs.account.is_apart.Statement.{statement}
@@ -20,10 +21,10 @@ is-free-from-requires : tie.Need-is-free-from-requires
 is-free-from-requires c κs = search needs
 
 returns : tie.Need-returns
-returns c = rw (← (c .before .before .record-at .ensures .0), eq-eqb _ _ (c .if1 .taken))
+returns c = rw (← (held (c .before .before .record-at .ensures .0)), eq-eqb _ _ (c .if1 .taken))
 
 returns-2 : tie.Need-returns-2
-returns-2 c = rw (← (c .before .before .before .before .record-at .ensures .0), ne-eqb _ _ (c .before .before .if1 .left), ← (c .before .number-at .ensures)) (c .is-free-from .ensures)
+returns-2 c = rw (← (held (c .before .before .before .before .record-at .ensures .0)), ne-eqb _ _ (c .before .before .if1 .left), ← (c .before .number-at .ensures)) (c .is-free-from .ensures)
 
 pub is-apart-spec : {M : Type 1} → statement M
 is-apart-spec =

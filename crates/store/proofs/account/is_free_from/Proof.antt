@@ -4,6 +4,7 @@ use mathlib.Core.Bool.{_&&_}
 use Prim.Native.Nat.{_≤_, _-_}
 use native.Mathlib.Omega.{arith}
 use Rattle.octets.specs.Stretch.{every}
+use Rattle.octets.proofs.LentLaws.{held}
 use Rattle.store.specs.Account.{otherId}
 use Rattle.store.proofs.PlacesLaws.{from, every-more, every-done}
 use Rattle.store.proofs.account.is_free_from.Statement.{statement}
@@ -31,7 +32,7 @@ loop-less : tie.Need-loop-less Inv-loop μ-loop
 loop-less c = omega arith
 
 loop-again : tie.Need-loop-again Inv-loop μ-loop
-loop-again c = (omega arith, rw (c .is-other-id .ensures, c .before .record-at .ensures .0) (c .before .before .before .loop .inv .1 ∙ every-more (c .before .before .before .loop .j) (c .before .before .before .before .before .args .part .now) (c .before .before .loop-test .taken) (otherId (c .before .before .before .before .before .args .id)) (c .before .before .before .loop .free)))
+loop-again c = (omega arith, rw (c .is-other-id .ensures, held (c .before .record-at .ensures .0)) (c .before .before .before .loop .inv .1 ∙ every-more (c .before .before .before .loop .j) (c .before .before .before .before .before .args .part .now) (c .before .before .loop-test .taken) (otherId (c .before .before .before .before .before .args .id)) (c .before .before .before .loop .free)))
 
 returns : tie.Need-returns Inv-loop μ-loop
 returns c = sym (c .before .loop .inv .1 ∙ every-done (c .before .loop .j) (c .before .before .before .args .part .now) (c .loop-test .left) (otherId (c .before .before .before .args .id)) (c .before .loop .free))

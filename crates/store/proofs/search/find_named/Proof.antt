@@ -3,6 +3,7 @@ use mathlib.Core.Path.{_≡_, sym, ap, _∙_, subst}
 use Prim.Native.Nat.{_≤_, _-_}
 use native.Mathlib.Omega.{arith}
 use Rattle.octets.specs.Rows.{rows, rowsFrom}
+use Rattle.octets.proofs.LentLaws.{held}
 use Rattle.records.specs.Book.{named}
 use Rattle.store.specs.Places.{Below, over, none, keep, foundOf, lowest}
 use Rattle.store.proofs.PlacesLaws.{over-next, over-last, lowest-below}
@@ -37,7 +38,7 @@ loop-less c = omega arith
 loop-again : tie.Need-loop-again Inv-loop μ-loop
 loop-again c = (
   omega arith,
-  c .before .before .before .loop .inv .1 ∙ over-next 64 8 (c .before .before .before .loop .a) (c .before .before .before .before .before .before .before .before .args .book .now) (keep (named (c .before .before .before .before .before .before .before .before .args .system .now) (c .before .before .before .before .before .before .before .before .args .kind .now)) (λ r. 0)) (c .before .before .before .loop .best) _ (c .before .before .loop-test .taken) (rw (c .before .record-of .ensures .0) at (c .better-named .ensures)),
+  c .before .before .before .loop .inv .1 ∙ over-next 64 8 (c .before .before .before .loop .a) (c .before .before .before .before .before .before .before .before .args .book .now) (keep (named (c .before .before .before .before .before .before .before .before .args .system .now) (c .before .before .before .before .before .before .before .before .args .kind .now)) (λ r. 0)) (c .before .before .before .loop .best) _ (c .before .before .loop-test .taken) (rw (held (c .before .record-of .ensures .0)) at (c .better-named .ensures)),
 )
 
 found-at-requires : tie.Need-found-at-requires Inv-loop μ-loop

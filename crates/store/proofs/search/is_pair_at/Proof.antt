@@ -1,4 +1,5 @@
 -- `store::search::is_pair_at` meets its contract. Assumes nothing.
+use Rattle.octets.proofs.LentLaws.{held}
 use Rattle.store.specs.Search.{passes}
 use borrow.Author.Needs.{needs}
 use Rattle.store.proofs.search.is_pair_at.Statement.{statement}
@@ -12,7 +13,7 @@ is-pair-requires c κs = search needs
 
 returns : tie.Need-returns
 unfolding passes
-returns c = rw (← (c .before .record-at .ensures .0)) (c .is-pair .ensures)
+returns c = rw (← (held (c .before .record-at .ensures .0))) (c .is-pair .ensures)
 
 pub is-pair-at-spec : {M : Type 1} → statement M
 is-pair-at-spec = tie.close (tie.spec record-at-requires is-pair-requires returns)

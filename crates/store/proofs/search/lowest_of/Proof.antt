@@ -2,6 +2,7 @@
 use mathlib.Core.Path.{_≡_, sym, ap, _∙_, subst}
 use Prim.Native.Nat.{_≤_, _-_}
 use native.Mathlib.Omega.{arith}
+use Rattle.octets.proofs.LentLaws.{held}
 use Rattle.store.specs.Places.{records, OnePlace, over, none, keep, foundOf, lowest}
 use Rattle.store.specs.Search.{passes, rankOf}
 use Rattle.store.proofs.PlacesLaws.{from, over-next, over-last, lowest-below}
@@ -36,7 +37,7 @@ loop-less c = omega arith
 loop-again : tie.Need-loop-again Inv-loop μ-loop
 loop-again c = (
   omega arith,
-  c .before .before .before .loop .inv .1 ∙ over-next 256 16 (c .before .before .before .loop .k) (c .before .before .before .before .before .before .before .before .args .part .now) (keep (passes (c .before .before .before .before .before .before .before .before .args .search) (c .before .before .before .before .before .before .before .before .args .source .now) (c .before .before .before .before .before .before .before .before .args .destination .now)) (rankOf (c .before .before .before .before .before .before .before .before .args .search))) (c .before .before .before .loop .best) _ (c .before .before .loop-test .taken) (rw (c .before .record-at .ensures .0) at (c .better .ensures)),
+  c .before .before .before .loop .inv .1 ∙ over-next 256 16 (c .before .before .before .loop .k) (c .before .before .before .before .before .before .before .before .args .part .now) (keep (passes (c .before .before .before .before .before .before .before .before .args .search) (c .before .before .before .before .before .before .before .before .args .source .now) (c .before .before .before .before .before .before .before .before .args .destination .now)) (rankOf (c .before .before .before .before .before .before .before .before .args .search))) (c .before .before .before .loop .best) _ (c .before .before .loop-test .taken) (rw (held (c .before .record-at .ensures .0)) at (c .better .ensures)),
 )
 
 found-at-requires : tie.Need-found-at-requires Inv-loop μ-loop

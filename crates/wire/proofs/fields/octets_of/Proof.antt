@@ -1,5 +1,7 @@
 -- `wire::fields::octets_of` meets its contract. Assumes nothing.
-use Rattle.octets.proofs.StretchLaws.{part-cut}
+use native.Mathlib.Omega.{arith}
+use Rattle.octets.specs.Lent.{lent}
+use Rattle.octets.proofs.LentLaws.{lent-cut}
 use borrow.Author.Needs.{needs}
 use Rattle.wire.proofs.fields.octets_of.Statement.{statement}
 use Rattle.wire.proofs.fields.octets_of.Tie as tie
@@ -17,7 +19,7 @@ part-result-end : tie.Need-part-result-end
 part-result-end c = search needs
 
 returns : tie.Need-returns
-returns c = part-cut (c .before .before .args .span .from) (c .before .before .args .span .len) (c .before .before .args .body .now)
+returns c = lent-cut (lent (c .before .before .args .body)) (c .before .before .args .span .from) (c .before .before .args .span .len) (omega arith)
 
 pub octets-of-spec : {M : Type 1} → statement M
 octets-of-spec = tie.close (tie.spec add-end sub-result part-result-start part-result-end returns)

@@ -4,6 +4,7 @@ use mathlib.Core.Path.{ap}
 use Prim.Native.Nat.{_≤_}
 use native.Mathlib.Omega.{arith}
 use lib.ListN.{length, length-take}
+use Rattle.octets.proofs.LentLaws.{held}
 use Rattle.wire.specs.Fields.{addressAt}
 use Rattle.wire.proofs.FieldLaws.{address-padded}
 use borrow.Author.Needs.{needs}
@@ -32,12 +33,12 @@ octets-of-requires : tie.Need-octets-of-requires
 octets-of-requires c κs = search needs
 
 put-requires : tie.Need-put-requires
-put-requires c κs = omega (arith, simp length-take at (ap length (c .octets-of .ensures)))
+put-requires c κs = omega (arith, simp length-take at (ap length (held (c .octets-of .ensures))))
 
 returns : tie.Need-returns
 unfolding addressAt
-returns c = let fits : length (now (c .before .before .octets-of .result)) ≤ 20 = omega (arith, simp length-take at (ap length (c .before .before .octets-of .ensures))) in
-    rw (← (c .before .before .before .before .before .before .before .before .before .before .read-octet .ensures), ← (c .before .before .before .before .before .before .before .before .read-octet2 .ensures), ← (c .before .before .before .before .before .before .read-text .ensures .0), ← (c .before .before .octets-of .ensures), ← (address-padded (c .before .before .before .before .before .before .before .before .before .before .read-octet .result .value) (c .before .before .before .before .before .before .before .before .read-octet2 .result .value) (now (c .before .before .octets-of .result)) fits), ← (c .before .put .ensures))
+returns c = let fits : length (now (c .before .before .octets-of .result)) ≤ 20 = omega (arith, simp length-take at (ap length (held (c .before .before .octets-of .ensures)))) in
+    rw (← (c .before .before .before .before .before .before .before .before .before .before .read-octet .ensures), ← (c .before .before .before .before .before .before .before .before .read-octet2 .ensures), ← (c .before .before .before .before .before .before .read-text .ensures .0), ← (held (c .before .before .octets-of .ensures)), ← (address-padded (c .before .before .before .before .before .before .before .before .before .before .read-octet .result .value) (c .before .before .before .before .before .before .before .before .read-octet2 .result .value) (now (c .before .before .octets-of .result)) fits), ← (c .before .put .ensures))
 
 pub read-address-spec : {M : Type 1} → statement M
 read-address-spec =

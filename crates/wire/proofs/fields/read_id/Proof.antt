@@ -2,6 +2,7 @@
 use mathlib.Core.Path.{ap}
 use native.Mathlib.Omega.{arith}
 use lib.ListN.{length, length-take}
+use Rattle.octets.proofs.LentLaws.{held}
 use Rattle.wire.specs.Fields.{idAt}
 use borrow.Author.Needs.{needs}
 use Rattle.wire.proofs.fields.read_id.Statement.{statement}
@@ -14,11 +15,11 @@ octets-of-requires : tie.Need-octets-of-requires
 octets-of-requires c κs = search needs
 
 message-id-requires : tie.Need-message-id-requires
-message-id-requires c κs = omega (arith, simp length-take at (ap length (c .octets-of .ensures)))
+message-id-requires c κs = omega (arith, simp length-take at (ap length (held (c .octets-of .ensures))))
 
 returns : tie.Need-returns
 unfolding idAt
-returns c = rw (← (c .before .before .before .before .read-text .ensures .0), ← (c .before .octets-of .ensures), c .message-id .ensures)
+returns c = rw (← (c .before .before .before .before .read-text .ensures .0), ← (held (c .before .octets-of .ensures)), c .message-id .ensures)
 
 pub read-id-spec : {M : Type 1} → statement M
 read-id-spec =

@@ -3,6 +3,7 @@ use mathlib.Core.Path.{sym, _∙_}
 use native.Mathlib.Omega.{arith}
 use borrow.Author.Tests.{eq-eqb, ne-eqb, lt-ltb, le-ltb, not-true, not-false}
 use Rattle.octets.specs.Choice.{if_then_else_}
+use Rattle.octets.proofs.LentLaws.{held}
 use Rattle.wire.specs.Fields.{textAt}
 use Rattle.wire.proofs.FieldLaws.{inside}
 use borrow.Author.Needs.{needs}
@@ -34,7 +35,7 @@ no-span-requires-2 c κs = search needs
 returns-2 : tie.Need-returns-2
 unfolding textAt if_then_else_
 returns-2 c = (
-  rw (eq-eqb _ _ (c .before .before .before .before .before .before .before .if1 .left), ← (c .before .before .before .before .before .before .from .ensures), ← (c .before .before .before .before .before .first .ensures), ← (c .before .before .before .before .lead-of .ensures .0), eq-eqb _ _ (c .before .before .before .if2 .taken), lt-ltb _ _ (c .before .before .if3 .taken), ← (c .before .refuse .ensures)) (c .no-span2 .ensures .0),
+  rw (eq-eqb _ _ (c .before .before .before .before .before .before .before .if1 .left), ← (held (c .before .before .before .before .before .before .from .ensures)), ← (held (c .before .before .before .before .before .first .ensures)), ← (c .before .before .before .before .lead-of .ensures .0), eq-eqb _ _ (c .before .before .before .if2 .taken), lt-ltb _ _ (c .before .before .if3 .taken), ← (c .before .refuse .ensures)) (c .no-span2 .ensures .0),
   (omega arith, omega arith),
 )
 
@@ -47,7 +48,7 @@ no-span-requires-3 c κs = search needs
 returns-3 : tie.Need-returns-3
 unfolding textAt if_then_else_
 returns-3 c = (
-  rw (eq-eqb _ _ (c .before .before .before .before .before .before .before .if1 .left), ← (c .before .before .before .before .before .before .from .ensures), ← (c .before .before .before .before .before .first .ensures), ← (c .before .before .before .before .lead-of .ensures .0), eq-eqb _ _ (c .before .before .before .if2 .taken), le-ltb _ _ (c .before .before .if3 .left), ← (c .before .refuse2 .ensures)) (c .no-span3 .ensures .0),
+  rw (eq-eqb _ _ (c .before .before .before .before .before .before .before .if1 .left), ← (held (c .before .before .before .before .before .before .from .ensures)), ← (held (c .before .before .before .before .before .first .ensures)), ← (c .before .before .before .before .lead-of .ensures .0), eq-eqb _ _ (c .before .before .before .if2 .taken), le-ltb _ _ (c .before .before .if3 .left), ← (c .before .refuse2 .ensures)) (c .no-span3 .ensures .0),
   (omega arith, omega arith),
 )
 
@@ -66,20 +67,20 @@ no-span-requires-4 c κs = search needs
 returns-4 : tie.Need-returns-4
 unfolding textAt if_then_else_
 returns-4 c = (
-  rw (eq-eqb _ _ (c .before .before .before .before .before .before .before .before .before .if1 .left), ← (c .before .before .before .before .before .before .before .before .from .ensures), ← (c .before .before .before .before .before .before .before .first .ensures), ← (c .before .before .before .before .before .before .lead-of .ensures .0), ne-eqb _ _ (c .before .before .before .before .before .if2 .left), ← (c .before .before .before .before .first2 .ensures), sym (c .before .before .before .is-formed .ensures) ∙ not-true _ (c .before .before .if4 .taken), ← (c .before .refuse3 .ensures)) (c .no-span4 .ensures .0),
+  rw (eq-eqb _ _ (c .before .before .before .before .before .before .before .before .before .if1 .left), ← (held (c .before .before .before .before .before .before .before .before .from .ensures)), ← (held (c .before .before .before .before .before .before .before .first .ensures)), ← (c .before .before .before .before .before .before .lead-of .ensures .0), ne-eqb _ _ (c .before .before .before .before .before .if2 .left), ← (held (c .before .before .before .before .first2 .ensures)), sym (c .before .before .before .is-formed .ensures) ∙ not-true _ (c .before .before .if4 .taken), ← (c .before .refuse3 .ensures)) (c .no-span4 .ensures .0),
   (omega arith, omega arith),
 )
 
 add-t13 : tie.Need-add-t13
-add-t13 c = let i = inside (c .before .before .before .before .before .before .before .before .before .args .c .at) (c .before .before .before .before .before .before .before .before .before .args .most) (c .before .before .before .before .lead-of .result) _ _ _ (c .before .before .before .before .before .before .from .ensures) (c .before .before .before .before .before .first .ensures) (omega (arith, c .before .before .before .before .lead-of .ensures .1)) in omega arith
+add-t13 c = let i = inside (c .before .before .before .before .before .before .before .before .before .args .c .at) (c .before .before .before .before .before .before .before .before .before .args .most) (c .before .before .before .before .lead-of .result) _ _ _ (held (c .before .before .before .before .before .before .from .ensures)) (held (c .before .before .before .before .before .first .ensures)) (omega (arith, c .before .before .before .before .lead-of .ensures .1)) in omega arith
 
 add-t22 : tie.Need-add-t22
-add-t22 c = let i = inside (c .before .before .before .before .before .before .before .before .before .args .c .at) (c .before .before .before .before .before .before .before .before .before .args .most) (c .before .before .before .before .lead-of .result) _ _ _ (c .before .before .before .before .before .before .from .ensures) (c .before .before .before .before .before .first .ensures) (omega (arith, c .before .before .before .before .lead-of .ensures .1)) in omega arith
+add-t22 c = let i = inside (c .before .before .before .before .before .before .before .before .before .args .c .at) (c .before .before .before .before .before .before .before .before .before .args .most) (c .before .before .before .before .lead-of .result) _ _ _ (held (c .before .before .before .before .before .before .from .ensures)) (held (c .before .before .before .before .before .first .ensures)) (omega (arith, c .before .before .before .before .lead-of .ensures .1)) in omega arith
 
 returns-5 : tie.Need-returns-5
 unfolding textAt if_then_else_
-returns-5 c = let i = inside (c .before .before .before .before .before .before .before .before .before .args .c .at) (c .before .before .before .before .before .before .before .before .before .args .most) (c .before .before .before .before .lead-of .result) _ _ _ (c .before .before .before .before .before .before .from .ensures) (c .before .before .before .before .before .first .ensures) (omega (arith, c .before .before .before .before .lead-of .ensures .1)) in (
-  rw (eq-eqb _ _ (c .before .before .before .before .before .before .before .if1 .left), ← (c .before .before .before .before .before .before .from .ensures), ← (c .before .before .before .before .before .first .ensures), ← (c .before .before .before .before .lead-of .ensures .0), ne-eqb _ _ (c .before .before .before .if2 .left), ← (c .before .before .first2 .ensures), sym (c .before .is-formed .ensures) ∙ not-false _ (c .if4 .left)),
+returns-5 c = let i = inside (c .before .before .before .before .before .before .before .before .before .args .c .at) (c .before .before .before .before .before .before .before .before .before .args .most) (c .before .before .before .before .lead-of .result) _ _ _ (held (c .before .before .before .before .before .before .from .ensures)) (held (c .before .before .before .before .before .first .ensures)) (omega (arith, c .before .before .before .before .lead-of .ensures .1)) in (
+  rw (eq-eqb _ _ (c .before .before .before .before .before .before .before .if1 .left), ← (held (c .before .before .before .before .before .before .from .ensures)), ← (held (c .before .before .before .before .before .first .ensures)), ← (c .before .before .before .before .lead-of .ensures .0), ne-eqb _ _ (c .before .before .before .if2 .left), ← (held (c .before .before .first2 .ensures)), sym (c .before .is-formed .ensures) ∙ not-false _ (c .if4 .left)),
   (omega arith, omega arith),
 )
 
