@@ -283,16 +283,14 @@ fn count<'a>(
 }
 
 /// Functions that no edit changes, and why.
-pub const EXCEPTED: [(&str, &str); 3] = [
-    ("smsc33::main", "opens a file; it has no contract"),
+pub const EXCEPTED: [(&str, &str); 4] = [
     (
-        "smsc33::run",
-        "reads and writes until the input ends; it has no contract",
+        "bound::spoken",
+        "each of its lines stands in another function too, so that no edit can name it",
     ),
-    (
-        "smsc33::read_turn",
-        "reads a record and writes a line; it has no contract",
-    ),
+    ("smsc33::main", "it has no contract"),
+    ("smsc33::run", "it has no contract"),
+    ("smsc33::read_turn", "it has no contract"),
 ];
 
 /// The functions of which too few wrong answers were refused: two of a public one, one of any
@@ -437,7 +435,7 @@ const MISFITS: [&str; 4] = [
     "that can be named from here",
     "has no field `",
     "neither the goal nor the list settles argument",
-    "is the implicit argument",
+    ".result) (?",
 ];
 
 #[cfg(test)]
@@ -644,9 +642,9 @@ pub record Good (r : List ℕ) : Type 0 where
     }
 
     #[test]
-    fn a_test_that_is_formed_otherwise_is_a_misfit() {
+    fn a_test_of_something_else_than_a_call_gave_is_a_misfit() {
         assert!(is_misfit(
-            "`returns`: as printed, the two types first differ where one has `c` (expected)\n  here `?10` is the implicit argument {c} of `_∙_` (introduced at 48:356)"
+            "`returns`: as printed, the two types first differ where one has `c` (expected)\n  expected type `_≡_ (c .before .is-none .result) (?3 c)`, but this has type `_≡_ (borrow.Table.Row.get 5 locals) true`"
         ));
     }
 
