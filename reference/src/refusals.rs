@@ -143,7 +143,7 @@ pub fn definition_around(source: &str, old: &str) -> Result<Option<String>, Stri
         .ok_or(format!("`{old}` stands in no definition"))?;
     let mut words = declaration
         .split_whitespace()
-        .skip_while(|word| ["abbrev", "unfoldable", "pub", "record"].contains(word));
+        .skip_while(|word| ["abbrev", "unfoldable", "pub", "record", "data"].contains(word));
     Ok(words
         .next()
         .filter(|word| *word != "use")
@@ -232,53 +232,58 @@ pub struct Verdict {
 /// Counts what is refused. Of one function that is at most as much as the edit changes in it,
 /// and at most as many as the facts that refuse it.
 pub fn verdict(touches: &[Touch], laws: &[&str], log: &Log) -> Verdict {
+    let mut refused = BTreeMap::new();
+    let mut faults = laws_left(touches, laws, log);
     let mut changes: BTreeMap<&Function, usize> = BTreeMap::new();
-    let mut verdict = Verdict::default();
-    let mut unnamed = 0;
     for touch in touches {
-        match touch {
-            Touch::Code(functions) => count(&mut changes, functions),
-            Touch::Definition(functions) if functions.is_empty() => unnamed += 1,
-            Touch::Definition(functions) => {
-                let refused = functions.iter().filter(|f| !log.refusal_of(f).is_empty());
-                let refused: Vec<&Function> = refused.collect();
-                if refused.is_empty() {
-                    verdict.faults.push("a definition: no fact".to_string());
-                }
-                count(&mut changes, refused);
-            }
+        let functions = touch.functions(log);
+        if functions.is_empty() && !touch.is_of_laws() {
+            faults.push("a definition: no fact".to_string());
+        }
+        for function in functions {
+            *changes.entry(function).or_default() += 1;
         }
     }
-    if laws.len() < unnamed {
-        let faults = format!("{unnamed} definitions, {} laws named", laws.len());
-        verdict.faults.push(faults);
-    }
-    let kept = laws.iter().filter(|law| !log.refuses_law(law));
-    verdict
-        .faults
-        .extend(kept.map(|law| format!("{law}: no fact")));
     for (function, changes) in changes {
         let Refusal { facts, misfits } = log.refusal_of(function);
         let name = function.full_name(log.krate);
         match misfits.first().and_then(|said| said.lines().next()) {
-            Some(said) => verdict.faults.push(format!("{name}: a misfit, {said}")),
-            None if facts.is_empty() => verdict.faults.push(format!("{name}: no fact")),
-            None => drop(
-                verdict
-                    .refused
-                    .insert(function.clone(), changes.min(facts.len())),
-            ),
+            Some(said) => faults.push(format!("{name}: a misfit, {said}")),
+            None if facts.is_empty() => faults.push(format!("{name}: no fact")),
+            None => drop(refused.insert(function.clone(), changes.min(facts.len()))),
         }
     }
-    verdict
+    Verdict { refused, faults }
 }
 
-fn count<'a>(
-    changes: &mut BTreeMap<&'a Function, usize>,
-    functions: impl IntoIterator<Item = &'a Function>,
-) {
-    for function in functions {
-        *changes.entry(function).or_default() += 1;
+/// What the laws lack: there is one for each definition that no contract names, and each is
+/// refused.
+fn laws_left(touches: &[Touch], laws: &[&str], log: &Log) -> Vec<String> {
+    let kept = laws.iter().filter(|law| !log.refuses_law(law));
+    let mut faults: Vec<String> = kept.map(|law| format!("{law}: no fact")).collect();
+    let definitions = touches.iter().filter(|touch| touch.is_of_laws()).count();
+    if laws.len() < definitions {
+        faults.push(format!("{definitions} definitions, {} laws", laws.len()));
+    }
+    faults
+}
+
+impl Touch {
+    /// The functions that are held to it. Of those whose contracts name a definition, some can
+    /// be right by the changed one too.
+    fn functions(&self, log: &Log) -> Vec<&Function> {
+        match self {
+            Touch::Code(functions) => functions.iter().collect(),
+            Touch::Definition(functions) => functions
+                .iter()
+                .filter(|function| !log.refusal_of(function).is_empty())
+                .collect(),
+        }
+    }
+
+    /// Whether only laws could refuse it.
+    fn is_of_laws(&self) -> bool {
+        matches!(self, Touch::Definition(functions) if functions.is_empty())
     }
 }
 
@@ -307,8 +312,12 @@ pub fn short(krate: &str, all: &[Declared], refused: &BTreeMap<Function, usize>)
         let least = if *is_public { 2 } else { 1 };
         let have = refused.get(function).copied().unwrap_or(0);
         let is_excepted = EXCEPTED.iter().any(|(excepted, _)| *excepted == name);
-        if have < least && !is_excepted {
-            short.push(format!("{name}: {have} wrong answers refused, not {least}"));
+        match (is_excepted, have < least) {
+            (false, true) => {
+                short.push(format!("{name}: {have} wrong answers refused, not {least}"))
+            }
+            (true, false) => short.push(format!("{name} is excepted and needn't be")),
+            _ => (),
         }
     }
     short
@@ -753,9 +762,12 @@ pub record Good (r : List ℕ) : Type 0 where
     }
 
     #[test]
-    fn an_excepted_function_needs_none() {
+    fn an_excepted_function_has_none() {
         let all = declared("src/main.rt", "fn main() {\n}\n\nfn other() {\n}\n");
         let told = short("smsc33", &all, &BTreeMap::new());
         assert_eq!(told, ["smsc33::other: 0 wrong answers refused, not 1"]);
+        let both = BTreeMap::from([(function("main"), 1), (function("other"), 1)]);
+        let told = short("smsc33", &all, &both);
+        assert_eq!(told, ["smsc33::main is excepted and needn't be"]);
     }
 }
