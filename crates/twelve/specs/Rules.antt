@@ -3,7 +3,7 @@
 use Prim.Native.Nat.{ℕ, zero, suc, _+_}
 use mathlib.Core.Path.{_≡_, refl}
 use mathlib.Core.List.{List, [], _∷_, _++_}
-use lib.ListN.{take, length, replicate}
+use lib.ListN.{take, replicate}
 use Rattle.octets.specs.Stretch.{padded}
 use Rattle.store.specs.Places.{recordAt}
 use Rattle.session.specs.declared.Entry.the-variants.{Open, Transmitter}
