@@ -124,6 +124,14 @@ size_t inverook_pick_at(const uint8_t *book, size_t book_length,
                         inverook_state state,
                         size_t account);
 
+/* The same record's 256 octets, copied to the front of space; the rest of space is as it was. How many octets were copied: 256, or 0 where
+ * inverook_pick_number answers anything but 0, or where space is under 256 octets: then nothing is written. */
+size_t inverook_pick_record(const uint8_t *book, size_t book_length,
+                            const uint8_t *table, size_t table_length,
+                            inverook_state state,
+                            size_t account,
+                            uint8_t *space, size_t space_length);
+
 #ifdef __cplusplus
 }
 #endif

@@ -40,6 +40,17 @@ extern "C" {
         outcome: u8,
         error: u8,
     ) -> u8;
+
+    fn inverook_pick_record(
+        book: *const u8,
+        book_length: usize,
+        table: *const u8,
+        table_length: usize,
+        state: PlainState,
+        account: usize,
+        space: *mut u8,
+        space_length: usize,
+    ) -> usize;
 }
 
 /// Declares one of the library's two questions about the message to send next, and asks it.
@@ -127,6 +138,29 @@ impl Engine for Proved {
                 report.id,
                 report.outcome,
                 report.error,
+            )
+        }
+    }
+
+    fn pick_record(
+        &self,
+        book: &[u8],
+        table: &[u8],
+        state: &PlainState,
+        account: usize,
+        space: &mut [u8],
+    ) -> usize {
+        // SAFETY: as in `take`; only the space is written to.
+        unsafe {
+            inverook_pick_record(
+                book.as_ptr(),
+                book.len(),
+                table.as_ptr(),
+                table.len(),
+                *state,
+                account,
+                space.as_mut_ptr(),
+                space.len(),
             )
         }
     }

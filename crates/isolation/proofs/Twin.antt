@@ -1,6 +1,6 @@
 -- A step that concerns account A, taken in the full run, and its twin in the run alone: from worlds that are the same to A, the two give the same
 -- answer, and worlds that are the same to A. Assumes nothing.
-use mathlib.Core.Path.{_≡_, refl, sym, ap, ap₂, _∙_, subst}
+use mathlib.Core.Path.{_≡_, refl, sym, ap, _∙_, subst}
 use mathlib.Core.Bool.{Bool, true, false, not, _&&_, _||_, true≢false}
 use Prim.Native.Nat.{ℕ, _<_}
 use lib.ListN.{length, set}
@@ -12,7 +12,7 @@ use Rattle.session.specs.State.{sessionCount, accountCount, entryAt, opened, op
 use Rattle.session.specs.declared.Entry.{Entry}
 use Rattle.session.specs.declared.Entry.the-variants.{Closed, Open, Transmitter, Receiver, Ended}
 use Rattle.session.specs.declared.Moved.{Moved}
-use Rattle.isolation.specs.Platform.{partSize, tableSize, World, Own, putEntry, Step, opens, closes, on, of, Request, onSession, ofAccount, Effect, Ran, Machine, unchanged, ask, put, move, settle, onAccount, onEntry, onAfter, ofAfter, step}
+use Rattle.isolation.specs.Platform.{partSize, tableSize, World, putEntry, Step, opens, closes, on, of, Request, onSession, ofAccount, Effect, Ran, Machine, unchanged, ask, put, move, settle, onAccount, onEntry, onAfter, ofAfter, step}
 use Rattle.isolation.specs.History.{boundTo, boundIn, names, concerns, binds, reopened, anew, aloneStep}
 use Rattle.isolation.specs.Isolation.{Keeps}
 use Rattle.isolation.proofs.Sizes.{Sized, sized-entry, asked-length, sized-reopened}

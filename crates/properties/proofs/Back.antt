@@ -15,7 +15,7 @@ use Rattle.session.specs.State.{entryAt, closedSession}
 use Rattle.session.specs.declared.Entry.{Entry}
 use Rattle.session.specs.declared.Session.{Session}
 use Rattle.session.specs.declared.State.{State}
-use Rattle.isolation.specs.Platform.{World, partSize, Own, ownOf, putEntry, Effect, Ran, unchanged, put}
+use Rattle.isolation.specs.Platform.{World, partSize, ownOf, putEntry, Effect, Ran, unchanged, put}
 use Rattle.answers.specs.Answer.{Answer, numbered, picked}
 use Rattle.bound.specs.Bound.{keeping}
 use Rattle.centre.specs.Operations.{onPick}

@@ -6,7 +6,6 @@ use mathlib.Core.List.{List}
 use lib.Dec.{leb, ltb, eqb}
 use lib.ListN.{length, take}
 use borrow.Author.Tests.{eq-eqb, lt-ltb, not-true}
-use Rattle.octets.specs.Choice.{if_then_else_}
 use Rattle.octets.proofs.StretchLaws.{if-cases}
 use Rattle.wire.specs.Frame.{frameOf}
 use Rattle.wire.specs.declared.frame.Frame.{Frame}

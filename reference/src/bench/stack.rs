@@ -123,4 +123,8 @@ impl Engine for Idle {
     fn pick_at(&self, _: &[u8], _: &[u8], _: &PlainState, _: usize) -> usize {
         0
     }
+
+    fn pick_record(&self, _: &[u8], _: &[u8], _: &PlainState, _: usize, _: &mut [u8]) -> usize {
+        0
+    }
 }

@@ -52,6 +52,7 @@ fn difference(step: &Step, answers: &[Answer; 2], one: &World, other: &World) ->
         .or_else(|| state_difference(one, other))
         .or_else(|| space_difference(one, other))
         .or_else(|| table_difference(one, other))
+        .or_else(|| copy_difference(one, other))
 }
 
 fn answer_difference(step: &Step, [one, other]: &[Answer; 2]) -> Option<String> {
@@ -84,6 +85,17 @@ fn state_difference(one: &World, other: &World) -> Option<String> {
 fn space_difference(one: &World, other: &World) -> Option<String> {
     let (at, a, b) = first_difference(one.space(), other.space())?;
     Some(format!("response space, octet {at}: {a:02X} or {b:02X}"))
+}
+
+fn copy_difference(one: &World, other: &World) -> Option<String> {
+    let ((a, m), (b, n)) = (one.copied(), other.copied());
+    if m != n {
+        return Some(format!("octets of the picked record copied: {m} or {n}"));
+    }
+    let (at, a, b) = first_difference(a, b)?;
+    Some(format!(
+        "copy of the picked record, octet {at}: {a:02X} or {b:02X}"
+    ))
 }
 
 fn table_difference(one: &World, other: &World) -> Option<String> {

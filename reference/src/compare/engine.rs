@@ -1,6 +1,6 @@
 //! What can be played: the operations over lent octets and a plain state.
 
-use crate::centre::{Lent, PlainState, Reference, Refusal, Report, State, DONE, TABLE};
+use crate::centre::{Lent, PlainState, Reference, Refusal, Report, State, DONE, PLACE, TABLE};
 
 /// The answer of opening and closing, laid out as the C interface has it.
 #[derive(Clone, Copy, Debug, PartialEq, Eq)]
@@ -43,6 +43,17 @@ pub trait Engine {
 
     /// The octet at which the picked record starts, or the table's size where there is none.
     fn pick_at(&self, book: &[u8], table: &[u8], state: &PlainState, account: usize) -> usize;
+
+    /// Copies the picked record to the front of the space, and tells how many octets that
+    /// were: none where there is no record, or no room for it.
+    fn pick_record(
+        &self,
+        book: &[u8],
+        table: &[u8],
+        state: &PlainState,
+        account: usize,
+        space: &mut [u8],
+    ) -> usize;
 }
 
 impl Engine for Reference {
@@ -95,6 +106,23 @@ impl Engine for Reference {
     fn pick_at(&self, book: &[u8], table: &[u8], state: &PlainState, account: usize) -> usize {
         self.pick(book, table, &State::from(state), account)
             .unwrap_or(TABLE)
+    }
+
+    fn pick_record(
+        &self,
+        book: &[u8],
+        table: &[u8],
+        state: &PlainState,
+        account: usize,
+        space: &mut [u8],
+    ) -> usize {
+        let picked = self.pick(book, table, &State::from(state), account);
+        let Ok(at) = picked else { return 0 };
+        let Some(room) = space.get_mut(..PLACE) else {
+            return 0;
+        };
+        room.copy_from_slice(&table[at..at + PLACE]);
+        PLACE
     }
 }
 

@@ -2,7 +2,7 @@
 
 use super::engine::{Engine, Sent};
 use super::history::{History, Outcome, Sizes, Step, Take};
-use crate::centre::{Lent, PlainState, BOOK, TABLE};
+use crate::centre::{Lent, PlainState, BOOK, PLACE, TABLE};
 
 /// Octets behind the book and the table, for calls that lend too much.
 const BEHIND: usize = 256;
@@ -14,6 +14,9 @@ const UNTOUCHED: u8 = 0xA5;
 /// The most response space that a step can ask for.
 const SPACE: usize = 1024;
 
+/// Room for a picked record, and some octets behind it.
+const COPY: usize = PLACE + 8;
+
 /// The book, the table, the state and the response space.
 #[derive(Clone, Debug, PartialEq, Eq)]
 pub struct World {
@@ -21,6 +24,9 @@ pub struct World {
     table: Vec<u8>,
     pub state: PlainState,
     space: Vec<u8>,
+    /// What the last pick copied, and how many octets it said that were.
+    copied: Vec<u8>,
+    copied_count: usize,
 }
 
 /// What a step answered. A step that calls nothing answers 0.
@@ -42,6 +48,8 @@ impl World {
             table: vec![0; TABLE + BEHIND],
             state: PlainState::default(),
             space: vec![UNTOUCHED; SPACE],
+            copied: vec![UNTOUCHED; COPY],
+            copied_count: 0,
         }
     }
 
@@ -51,6 +59,11 @@ impl World {
 
     pub fn table(&self) -> &[u8] {
         &self.table[..TABLE]
+    }
+
+    /// What the last pick copied, and how many octets it said that were.
+    pub fn copied(&self) -> (&[u8], usize) {
+        (&self.copied, self.copied_count)
     }
 
     /// The table and the octets behind it.
@@ -63,9 +76,11 @@ impl World {
         &self.space
     }
 
-    /// Forgets what an earlier call wrote into the response space.
+    /// Forgets what an earlier call wrote into the response space, and what a pick copied.
     pub fn clear_space(&mut self) {
         self.space.fill(UNTOUCHED);
+        self.copied.fill(UNTOUCHED);
+        self.copied_count = 0;
     }
 
     pub fn play(&mut self, engine: &dyn Engine, step: &Step) -> Answer {
@@ -121,9 +136,17 @@ impl World {
         }
     }
 
-    fn pick(&self, engine: &dyn Engine, sizes: Sizes, account: usize) -> Answer {
+    fn pick(&mut self, engine: &dyn Engine, sizes: Sizes, account: usize) -> Answer {
         let book = &self.book[..sizes.book];
         let table = &self.table[..sizes.table];
+        // One octet too short for every fourth account.
+        let room = if account % 4 == 3 {
+            PLACE - 1
+        } else {
+            COPY - 1
+        };
+        let space = &mut self.copied[..room];
+        self.copied_count = engine.pick_record(book, table, &self.state, account, space);
         Answer {
             number: engine.pick_number(book, table, &self.state, account),
             picked: engine.pick_at(book, table, &self.state, account),

@@ -1,5 +1,5 @@
 -- `centre::operations::locate` meets its contract. Assumes nothing.
-use mathlib.Core.Path.{ap, _∙_}
+use mathlib.Core.Path.{ap}
 use Prim.Native.Nat.{_*_}
 use native.Mathlib.Omega.{arith}
 use native.Mathlib.Nat.{add-sub-cancel-left}
@@ -13,9 +13,6 @@ use Rattle.centre.proofs.PlacedLaws.{inside}
 use borrow.Author.Needs.{needs}
 use Rattle.centre.proofs.operations.locate.Statement.{statement}
 use Rattle.centre.proofs.operations.locate.Tie as tie
-use Rattle.centre.proofs.operations.check_pick.Reads as check-pick-reads
-use Rattle.centre.proofs.operations.on_pick.Reads as on-pick-reads
-use Rattle.records.proofs.book.record_of.Reads as record-of-reads
 
 check-pick-requires : tie.Need-check-pick-requires
 check-pick-requires c κs = search needs
