@@ -14,6 +14,7 @@ ghost use mathlib.Core.Bool.{false};
 ghost use Prim.Native.Nat.{_<_, _≤_};
 ghost use mathlib.Core.List.{[]};
 ghost use lib.ListN.{length};
+ghost use Rattle.forms.specs.Time.{timeLength};
 ghost use Rattle.wire.specs.Frame.{frameOf};
 ghost use Rattle.wire.specs.Status.{alreadyBound};
 ghost use Rattle.answers.specs.Reply.{spaceNeeded, bindBody, reply, over, wrote};
@@ -145,7 +146,7 @@ fn cancel_turn(
     part: &mut [u8],
     last: u32,
 ) -> Acted
-    requires { ⌜ ((length (now book) ≡ bookRecordSize) × (length (now stamp) ≡ 16)) × ((length (now part) ≡ partSize) × (spaceNeeded ≤ length (now space))) ⌝ }
+    requires { ⌜ ((length (now book) ≡ bookRecordSize) × (length (now stamp) ≡ timeLength)) × ((length (now part) ≡ partSize) × (spaceNeeded ≤ length (now space))) ⌝ }
     ensures { λ r. ⌜ acts r (now (part .exit)) (now (space .exit)) ≡ replying consumed 0x80000008 sequence (cancelTurn transmitter (now (book .entry)) (now (stamp .entry)) (now (body .entry)) (owning (now (part .entry)) last)) (now (space .entry)) ⌝ }
 {
     if !transmitter {
@@ -211,7 +212,7 @@ fn command(
     part: &mut [u8],
     last: u32,
 ) -> Acted
-    requires { ⌜ ((length (now book) ≡ bookRecordSize) × (length (now stamp) ≡ 16)) × ((16 ≤ length (now pdu)) × ((length (now part) ≡ partSize) × (spaceNeeded ≤ length (now space)))) ⌝ }
+    requires { ⌜ ((length (now book) ≡ bookRecordSize) × (length (now stamp) ≡ timeLength)) × ((16 ≤ length (now pdu)) × ((length (now part) ≡ partSize) × (spaceNeeded ≤ length (now space)))) ⌝ }
     ensures { λ r. ⌜ acts r (now (part .exit)) (now (space .exit)) ≡ boundPdu transmitter (now (book .entry)) (now (stamp .entry)) (now (pdu .entry)) (now (space .entry)) (owning (now (part .entry)) last) ⌝ }
 {
     let header = frame::read_header(pdu);
@@ -257,7 +258,7 @@ fn framed(
     part: &mut [u8],
     last: u32,
 ) -> Acted
-    requires { ⌜ ((length (now book) ≡ bookRecordSize) × (length (now stamp) ≡ 16)) × ((length (now part) ≡ partSize) × (spaceNeeded ≤ length (now space))) ⌝ }
+    requires { ⌜ ((length (now book) ≡ bookRecordSize) × (length (now stamp) ≡ timeLength)) × ((length (now part) ≡ partSize) × (spaceNeeded ≤ length (now space))) ⌝ }
     ensures { λ r. ⌜ acts r (now (part .exit)) (now (space .exit)) ≡ boundFrame transmitter (now (book .entry)) (now (octets .entry)) (now (stamp .entry)) (now (space .entry)) (frameOf (now (octets .entry))) (owning (now (part .entry)) last) ⌝ }
 {
     let first = frame::frame_of(octets);
@@ -287,7 +288,7 @@ pub fn on_bound(
     part: &mut [u8],
     last: u32,
 ) -> Acted
-    requires { ⌜ ((length (now book) ≡ bookRecordSize) × (length (now stamp) ≡ 16)) × ((length (now part) ≡ partSize) × (spaceNeeded ≤ length (now space))) ⌝ }
+    requires { ⌜ ((length (now book) ≡ bookRecordSize) × (length (now stamp) ≡ timeLength)) × ((length (now part) ≡ partSize) × (spaceNeeded ≤ length (now space))) ⌝ }
     ensures { λ r. ⌜ acts r (now (part .exit)) (now (space .exit)) ≡ onBound transmitter (now (book .entry)) (record { octets = now (octets .entry); stamp = now (stamp .entry); space = now (space .entry) }) (owning (now (part .entry)) last) ⌝ }
 {
     if store::account::is_account_ok(book, last, &part[..]) {

@@ -6,7 +6,7 @@ use mathlib.Core.List.{List}
 use lib.Dec.{ltb, eqb}
 use lib.ListN.{length}
 use Rattle.octets.specs.Choice.{if_then_else_}
-use Rattle.forms.specs.Time.{sentTime}
+use Rattle.forms.specs.Time.{timeLength, sentTime}
 use Rattle.answers.specs.Reply.{spaceNeeded}
 use Rattle.records.specs.Book.{bookSize, bookRecord}
 use Rattle.session.specs.declared.State.{State}
@@ -95,5 +95,5 @@ reports number state table = record { answer = numbered number; world = world st
 pub record Fit (book table : ℕ) (stamp : List ℕ) (space : ℕ) : Type 0 where
   pub bookFits : book ≡ bookSize
   pub tableFits : table ≡ tableSize
-  pub stampFits : length stamp ≡ 16
+  pub stampFits : length stamp ≡ timeLength
   pub spaceFits : spaceNeeded ≤ space

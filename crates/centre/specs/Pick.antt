@@ -3,6 +3,7 @@ use Prim.Native.Nat.{ℕ, _+_, _*_, _<_}
 use mathlib.Core.Path.{_≡_}
 use mathlib.Core.List.{List}
 use lib.ListN.{length}
+use Rattle.forms.specs.Time.{timeLength}
 use Rattle.octets.specs.Lent.{Lent, lentFirst, lentPart}
 use Rattle.records.specs.Layout.{recordSize, places}
 use Rattle.records.specs.Book.{bookSize}
@@ -50,4 +51,4 @@ pub record Sized (book table : ℕ) : Type 0 where
 pub record Stamped (book table : ℕ) (stamp : List ℕ) : Type 0 where
   pub bookFits : book ≡ bookSize
   pub tableFits : table ≡ tableSize
-  pub stampFits : length stamp ≡ 16
+  pub stampFits : length stamp ≡ timeLength

@@ -8,9 +8,9 @@ ghost use mathlib.Core.Path.{_≡_};
 ghost use Prim.Native.Nat.{_<_};
 ghost use lib.ListN.{length};
 ghost use Rattle.octets.specs.Lent.{lent};
-ghost use Rattle.records.specs.Layout.{partSize};
+ghost use Rattle.forms.specs.Time.{timeLength};
 ghost use Rattle.records.specs.Book.{bookRecordSize};
-ghost use Rattle.records.specs.Layout.{places};
+ghost use Rattle.records.specs.Layout.{places, partSize};
 ghost use Rattle.session.specs.State.{accountCount};
 ghost use Rattle.isolation.specs.Platform.{Step, owning, partOf};
 ghost use Rattle.answers.specs.Answer.{Question, numbered, numberOf, pickedRecord};
@@ -46,7 +46,7 @@ fn on_outcome(
     state: u8,
     error: u8,
 ) -> u8
-    requires { ⌜ (length (now book) ≡ bookRecordSize) × ((length (now part) ≡ partSize) × (length (now stamp) ≡ 16)) ⌝ }
+    requires { ⌜ (length (now book) ≡ bookRecordSize) × ((length (now part) ≡ partSize) × (length (now stamp) ≡ timeLength)) ⌝ }
     ensures { λ r. ⌜ keeping (numbered r) (owning (now (part .exit)) last) ≡ onOutcome (now (book .entry)) (record { stamp = now (stamp .entry); id = id; state = state; error = error }) (owning (now (part .entry)) last) ⌝ }
 {
     if !is_outcome(state) {

@@ -9,6 +9,7 @@ ghost use mathlib.Core.Path.{_≡_};
 ghost use Prim.Native.Nat.{ℕ, _<_, _≤_};
 ghost use mathlib.Core.List.{List};
 ghost use lib.ListN.{length};
+ghost use Rattle.forms.specs.Time.{timeLength};
 ghost use Rattle.answers.specs.Reply.{spaceNeeded};
 ghost use Rattle.records.specs.Book.{bookSize};
 ghost use Rattle.session.specs.State.{sessionCount, bound};
@@ -93,7 +94,7 @@ fn take_bound(
     space: &mut [u8],
 ) -> Taken
     requires { ⌜ ((length (now book) ≡ bookSize) × (length (now table) ≡ tableSize)) × ((session < sessionCount) × (isTransmitter entry ≡ transmitter)) ⌝ }
-    requires { ⌜ (length (now stamp) ≡ 16) × (spaceNeeded ≤ length (now space)) ⌝ }
+    requires { ⌜ (length (now stamp) ≡ timeLength) × (spaceNeeded ≤ length (now space)) ⌝ }
     ensures { λ r. ⌜ takes r (now (table .exit)) (now (space .exit)) ≡ onAccount centre (now (book .entry)) (world state (now (table .entry))) session (record { octets = now (octets .entry); stamp = now (stamp .entry); space = now (space .entry) }) entry a ⌝ }
 {
     let account = a as usize;

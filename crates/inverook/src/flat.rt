@@ -1,5 +1,6 @@
 // The state as C holds it: numbers in arrays, and no enum. A conversion lists its sixteen sessions, which is quicker than a loop and needs no
 // invariant.
+use records::layout;
 use session::Entry;
 use session::Session;
 use session::State;
@@ -12,9 +13,9 @@ ghost use Rattle.inverook.specs.Flat.{entryOf, sessionAt, stateOf, entry
 // inverook_state of include/inverook.h.
 #[repr(C)]
 pub struct InverookState {
-    pub kinds: [u8; 16],
-    pub accounts: [u8; 16],
-    pub lasts: [u32; 8],
+    pub kinds: [u8; session::SESSIONS],
+    pub accounts: [u8; session::SESSIONS],
+    pub lasts: [u32; layout::ACCOUNTS],
 }
 
 fn entry_of(kind: u8, account: u8) -> Entry
@@ -100,7 +101,7 @@ fn account_at(state: State, i: usize) -> u8
     account_of(state.entry(i))
 }
 
-fn kinds_of(state: State) -> [u8; 16]
+fn kinds_of(state: State) -> [u8; session::SESSIONS]
     ensures { λ r. ⌜ r ≡ map (kindAt state) sessions ⌝ }
 {
     [
@@ -123,7 +124,7 @@ fn kinds_of(state: State) -> [u8; 16]
     ]
 }
 
-fn accounts_of(state: State) -> [u8; 16]
+fn accounts_of(state: State) -> [u8; session::SESSIONS]
     ensures { λ r. ⌜ r ≡ map (accountAt state) sessions ⌝ }
 {
     [

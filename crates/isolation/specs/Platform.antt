@@ -43,7 +43,7 @@ owning p n = record { part = p; last = n }
 abbrev pub ownOf : World → ℕ → Own
 ownOf w a = owning (partOf a (w .table)) (lastAt (w .state) a)
 
--- the world with another account's own, and with another entry of a session
+-- the world with account a's own replaced, and with session s's entry replaced
 abbrev pub putOwn : World → ℕ → Own → World
 putOwn w a o = record { state = issued (w .state) a (o .last); table = putPart a (o .part) (w .table) }
 

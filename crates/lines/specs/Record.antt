@@ -8,6 +8,7 @@ use lib.ListN.{length, getD}
 use Rattle.octets.specs.Choice.{if_then_else_}
 use Rattle.octets.specs.Stretch.{part}
 use Rattle.octets.specs.Number.{number}
+use Rattle.forms.specs.Time.{timeLength}
 use Rattle.answers.specs.Answer.{Outcome}
 use Rattle.lines.specs.declared.record.Order.{Order}
 use Rattle.lines.specs.declared.record.Order.the-variants.{Open, Octets, Close, Bad}
@@ -15,6 +16,9 @@ use Rattle.lines.specs.declared.record.Order.the-variants as O
 
 abbrev pub recordSize : ℕ
 recordSize = 544
+
+abbrev pub payloadSize : ℕ
+payloadSize = 512
 
 abbrev pub kindOf : List ℕ → ℕ
 kindOf r = getD r 0 0
@@ -26,7 +30,7 @@ abbrev pub lengthOf : List ℕ → ℕ
 lengthOf r = getD r 2 0 * 256 + getD r 3 0
 
 abbrev pub stampOf : List ℕ → List ℕ
-stampOf r = part 4 16 r
+stampOf r = part 4 timeLength r
 
 abbrev pub payloadOf : List ℕ → List ℕ
 payloadOf r = part 20 (lengthOf r) r
@@ -43,7 +47,7 @@ unfoldable pub orderOf : List ℕ → Order
 orderOf r =
     if not (eqb (length r) recordSize) then Bad
     else if eqb (kindOf r) 0 then Open
-    else if eqb (kindOf r) 1 then (if leb (lengthOf r) 512 then Octets else Bad)
+    else if eqb (kindOf r) 1 then (if leb (lengthOf r) payloadSize then Octets else Bad)
     else if eqb (kindOf r) 2 then Close
     else if eqb (kindOf r) 3 then (if eqb (lengthOf r) 7 then O.Outcome else Bad)
     else Bad
@@ -51,7 +55,7 @@ orderOf r =
 -- what an order tells of its record
 abbrev pub Readable : Order → List ℕ → Type 0
 Readable Open r = length r ≡ recordSize
-Readable Octets r = (length r ≡ recordSize) × (lengthOf r ≤ 512)
+Readable Octets r = (length r ≡ recordSize) × (lengthOf r ≤ payloadSize)
 Readable Close r = length r ≡ recordSize
 Readable O.Outcome r = length r ≡ recordSize
 Readable Bad r = Unit

@@ -5,9 +5,8 @@ use mathlib.Core.List.{List}
 use Prim.Native.Nat.{ℕ, _+_, _-_, _≤_, min}
 use native.Mathlib.Omega.{arith}
 use lib.ListN.{length, take, drop, length-take, length-drop}
-use lib.Seq.{take-all}
 use denote.Ref.{RefT}
-use Rattle.octets.specs.Lent.{Lent, lent, lentFrom, lentFirst, lentPart}
+use Rattle.octets.specs.Lent.{Lent, lent, lentFrom, lentPart}
 use Rattle.octets.proofs.StretchLaws.{part-cut, drop-cut, drop-past, part-part}
 
 pub held : {s t : Lent} → s ≡ t → s .octets ≡ t .octets
@@ -40,13 +39,7 @@ pub lent-end : (s : Lent) (at : ℕ) → length (s .octets) ≤ at
     → moved (length (s .octets)) (take (length (s .octets) - length (s .octets)) (drop (length (s .octets)) (s .octets))) s ≡ lentFrom at s
 lent-end s at h = moved-is s (omega arith) (drop-past at (s .octets) h)
 
--- ---- each is a part, a part of a part is a part, and a part lies inside
-
-pub lent-first-part : (s : Lent) (n : ℕ) → lentPart 0 n s ≡ lentFirst n s
-lent-first-part s n = let e : min 0 (length (s .octets)) + s .place .1 ≡ s .place .1 = omega arith in rw e
-
-pub lent-from-part : (s : Lent) (at n : ℕ) → length (s .octets) ≤ at + n → lentPart at n s ≡ lentFrom at s
-lent-from-part s at n h = rw (take-all n (drop at (s .octets)) (simp length-drop (omega arith)))
+-- ---- a part of a part is a part, and a part lies inside what was lent
 
 pub lent-part-part : (s : Lent) (a m b n : ℕ) → b + n ≤ m → lentPart b n (lentPart a m s) ≡ lentPart (a + b) n s
 lent-part-part s a m b n h =

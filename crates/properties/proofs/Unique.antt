@@ -24,6 +24,9 @@ use Rattle.open.specs.Open.{answers}
 use Rattle.open.specs.declared.Fronted.{Fronted}
 use Rattle.bound.specs.Bound.{acts}
 use Rattle.bound.specs.declared.Acted.{Acted}
+use Rattle.centre.specs.Pick.{placed}
+use Rattle.centre.specs.declared.operations.Placed.{Placed}
+use Rattle.centre.specs.declared.operations.Placed.the-variants.{Refused, Place}
 use Rattle.session.specs.declared.Entry.{Entry}
 use Rattle.centre.specs.Centre.{centre, pickEarly, act, moves, takes, reports}
 use Rattle.centre.specs.declared.take.Taken.{Taken}
@@ -97,6 +100,12 @@ one-gave g g′ part part′ e =
     giving : ℕ → MessageId → ℕ → Given
     giving status id last = record { status = status; id = id; last = last }
 
+one-placed : (part : List ℕ) (r r′ : Placed) → placed r part ≡ placed r′ part → r ≡ r′
+one-placed part (Refused n) (Refused m) e = cc
+one-placed part (Refused n) (Place k) e = cc
+one-placed part (Place k) (Refused n) e = cc
+one-placed part (Place k) (Place j) e = cc
+
 picking : (book : List ℕ) (w : World) (a : ℕ) → (let r = step centre book w (of a pick) in (r .world ≡ w) × Picked (partOf a (w .table)) (r .answer))
 unfolding step act
 picking book w a =
@@ -125,4 +134,5 @@ property2 =
       told = λ b b′ p p′ e. (ap (λ (r : Reported). r .waited) e, ap (λ (r : Reported). r .part) e);
       answers = one-answers;
       acts = one-acts;
+      placed = one-placed;
     }

@@ -21,6 +21,8 @@ use Rattle.account.specs.Cancel.{changed}
 use Rattle.account.specs.Outcome.{told}
 use Rattle.open.specs.Open.{answers}
 use Rattle.bound.specs.Bound.{acts}
+use Rattle.centre.specs.Pick.{placed}
+use Rattle.centre.specs.declared.operations.Placed.{Placed}
 
 -- of an account with this part, a pick answers a number other than 0 alone, or one of the sixteen places and the record that stands there
 abbrev pub Picked : List ℕ → Answer → Type 0
@@ -56,3 +58,5 @@ pub record Property2 : Type 0 where
   pub told : Tells told
   pub answers : Tells answers
   pub acts : TellsOfThree acts
+  -- which place is picked
+  pub placed : (part : List ℕ) (r r′ : Placed) → placed r part ≡ placed r′ part → r ≡ r′

@@ -1,5 +1,5 @@
 -- The twelve examples of document 01, P1 to P12: one table, one claim, over the very `step` that the contracts of the code cite.
-use Prim.Native.Nat.{ℕ, _+_, _-_}
+use Prim.Native.Nat.{ℕ, _+_, _*_, _-_}
 use mathlib.Core.Path.{_≡_, refl}
 use mathlib.Core.List.{List, [], _∷_, _++_}
 use lib.ListN.{take, getD, replicate}
@@ -10,7 +10,8 @@ use Rattle.forms.specs.declared.text.MessageId.the-variants.{Number}
 use Rattle.wire.specs.Cursor.{start}
 use Rattle.wire.specs.Fields.{idAt}
 use Rattle.wire.specs.declared.fields.IdRead.{IdRead}
-use Rattle.records.specs.Layout.{recordSize}
+use Rattle.answers.specs.Reply.{spaceNeeded}
+use Rattle.records.specs.Layout.{recordSize, places, accountCount}
 use Rattle.session.specs.State.{closedSession}
 use Rattle.session.specs.declared.Entry.{Entry}
 use Rattle.session.specs.declared.Entry.the-variants.{Open, Transmitter, Ended}
@@ -37,7 +38,7 @@ heldFrom k (r ∷ rs) =
     if eqb (getD r 0 0) 0 then rest else record { place = k; octets = take 5 r } ∷ rest
 
 abbrev pub held : List ℕ → List Held
-held table = heldFrom 0 (rows recordSize 128 table)
+held table = heldFrom 0 (rows recordSize (places * accountCount) table)
 
 -- the answer, the state and what the table holds
 pub record Came : Type 0 where
@@ -105,7 +106,7 @@ stateWith entry last =
 
 -- number, consumed, written and the reply, the space behind it as it was
 abbrev pub answers : ℕ → ℕ → ℕ → List ℕ → Answer
-answers number consumed written reply = A.taken number consumed written (reply ++ replicate (44 - written) 0xEE)
+answers number consumed written reply = A.taken number consumed written (reply ++ replicate (spaceNeeded - written) 0xEE)
 
 -- nothing stored, no id issued
 abbrev pub gives : Answer → Entry → Came

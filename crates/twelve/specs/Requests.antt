@@ -5,6 +5,7 @@ use lib.ListN.{length, replicate}
 use Rattle.octets.specs.Number.{octets4}
 use Rattle.octets.specs.Stretch.{padded}
 use Rattle.isolation.specs.Platform.{Step, on}
+use Rattle.answers.specs.Reply.{spaceNeeded}
 use Rattle.answers.specs.Answer.{Octets, Question}
 
 -- numbers of four octets: of the requests alone, what is to come of them stands octet by octet
@@ -97,9 +98,9 @@ query = 49 ∷ 0 ∷ 0 ∷ 0 ∷ 0 ∷ []
 
 -- ---- steps
 
--- response space of 44 octets, each 0xEE, so that what is written shows
+-- as much response space as is needed, each octet 0xEE, so that what is written shows
 abbrev pub space : List ℕ
-space = replicate 44 0xEE
+space = replicate spaceNeeded 0xEE
 
 abbrev pub sends : ℕ → List ℕ → Step Octets Question
 sends session given = on session (record { octets = given; stamp = stamp; space = space })

@@ -6,7 +6,8 @@ use mathlib.Core.Logic.{_⊎_}
 use mathlib.Core.List.{List}
 use lib.ListN.{length, drop}
 use Rattle.octets.specs.Stretch.{padded, zeros}
-use Rattle.forms.specs.Field.{isField}
+use Rattle.forms.specs.Text.{longestText}
+use Rattle.forms.specs.Field.{addressSize, isField}
 use Rattle.forms.specs.Time.{storedTime}
 use Rattle.forms.specs.declared.text.Form.the-variants.{Ascii}
 use Rattle.records.specs.Layout.{places, stateOf, idOf, sourceOf, destinationOf, serviceOf, priorityOf, scheduleOf, validityOf, registeredOf, defaultOf, lengthOf, textFieldOf, dateOf, errorOf, spareOf}
@@ -27,7 +28,7 @@ pub record GoodEnd (r : List ℕ) : Type 0 where
 -- default id at most 100, length at most 140, not both given, unused text octets zero
 pub record GoodWords (r : List ℕ) : Type 0 where
   pub default : defaultOf r ≤ 100
-  pub size : lengthOf r ≤ 140
+  pub size : lengthOf r ≤ longestText
   pub notBoth : (lengthOf r ≡ 0) ⊎ (defaultOf r ≡ 0)
   pub unused : zeros (drop (lengthOf r) (textFieldOf r)) ≡ true
 
@@ -57,9 +58,9 @@ pub record GoodPart (last : ℕ) (part : List ℕ) : Type 0 where
 
 -- what a new record is made of passes the submission rules, both addresses given
 pub record GoodFields (f : Fields) (service text : List ℕ) : Type 0 where
-  pub sourceSize : length (f .source) ≡ 22
+  pub sourceSize : length (f .source) ≡ addressSize
   pub source : addressOk (f .source) ≡ true
-  pub destinationSize : length (f .destination) ≡ 22
+  pub destinationSize : length (f .destination) ≡ addressSize
   pub destination : addressOk (f .destination) ≡ true
   pub serviceSize : length service ≤ 5
   pub serviceText : isField Ascii (padded 5 service) ≡ true
@@ -68,5 +69,5 @@ pub record GoodFields (f : Fields) (service text : List ℕ) : Type 0 where
   pub validity : Timed (f .validity)
   pub registered : f .registered ≤ 1
   pub default : f .default ≤ 100
-  pub size : length text ≤ 140
+  pub size : length text ≤ longestText
   pub notBoth : (length text ≡ 0) ⊎ (f .default ≡ 0)

@@ -8,8 +8,8 @@ use lib.ListN.{length}
 use Rattle.octets.specs.Stretch.{part, every, zeros}
 use Rattle.forms.specs.Class.{inClass}
 use Rattle.forms.specs.Text.{longestText, formed}
-use Rattle.forms.specs.Time.{sentTime}
-use Rattle.forms.specs.Field.{isField}
+use Rattle.forms.specs.Time.{timeLength, sentTime}
+use Rattle.forms.specs.Field.{addressSize, isField}
 use Rattle.forms.specs.declared.class.Class.the-variants.{NotNul}
 use Rattle.forms.specs.declared.text.Form.{Form}
 use Rattle.forms.specs.declared.text.Form.the-variants.{Ascii, AddressOrNone}
@@ -27,12 +27,12 @@ pub record Text (form : Form) (n : ℕ) (span : Span) (body : List ℕ) : Type 0
 
 -- ton, npi, and in 20 octets, zeros behind it, nothing or leading spaces and then at least one decimal digit
 pub record Addressed (octets : List ℕ) : Type 0 where
-  pub size : length octets ≡ 22
+  pub size : length octets ≡ addressSize
   pub number : isField AddressOrNone (part 2 20 octets) ≡ true
 
 -- none, or a time
 pub record Timed (octets : List ℕ) : Type 0 where
-  pub size : length octets ≡ 16
+  pub size : length octets ≡ timeLength
   pub time : (zeros octets || sentTime octets) ≡ true
 
 -- a default id of at most 100 and a text of at most 140 octets in the body, not both given

@@ -1,8 +1,8 @@
 //! One number over all answers, response spaces, tables and states of a long run, for each
 //! engine: two builds that do the same print the same.
 //!
-//! `digest [steps] [seed]`. The histories are those of `compare` with the same arguments. It
-//! fails where two engines' numbers differ.
+//! `digest [steps] [seed] [recorded]`. The histories are those of `compare` with the same
+//! arguments. It fails where two engines' numbers differ, or differ from a recorded one.
 
 use reference::campaign;
 use reference::engines::engines;
@@ -12,17 +12,11 @@ const STEPS: u64 = 1_000_000;
 
 fn main() -> ExitCode {
     let words: Vec<String> = std::env::args().skip(1).collect();
-    let numbers: Result<Vec<u64>, _> = words.iter().map(|word| word.parse()).collect();
-    let (steps, seed) = match numbers.as_deref() {
-        Ok([]) => (STEPS, 1),
-        Ok([steps]) => (*steps, 1),
-        Ok([steps, seed]) => (*steps, *seed),
-        _ => {
-            eprintln!("usage: digest [steps] [seed]");
-            return ExitCode::from(2);
-        }
+    let Some((steps, seed, recorded)) = arguments(&words) else {
+        eprintln!("usage: digest [steps] [seed] [recorded]");
+        return ExitCode::from(2);
     };
-    let mut digests = Vec::new();
+    let mut digests: Vec<u64> = recorded.into_iter().collect();
     for engine in engines() {
         let (digest, played) = campaign::digest(engine, steps, seed);
         println!(
@@ -35,4 +29,14 @@ fn main() -> ExitCode {
         true => ExitCode::SUCCESS,
         false => ExitCode::FAILURE,
     }
+}
+
+fn arguments(words: &[String]) -> Option<(u64, u64, Option<u64>)> {
+    let steps = words.first().map_or(Some(STEPS), |word| word.parse().ok())?;
+    let seed = words.get(1).map_or(Some(1), |word| word.parse().ok())?;
+    let recorded = match words.get(2) {
+        Some(word) => Some(u64::from_str_radix(word, 16).ok()?),
+        None => None,
+    };
+    (words.len() <= 3).then_some((steps, seed, recorded))
 }

@@ -29,6 +29,8 @@ pub fn compare(
         one.clear_space();
         other.clear_space();
         let answers = [one.play(first, step), other.play(second, step)];
+        one.copy_picked(first, step);
+        other.copy_picked(second, step);
         tally.count(step, &answers[0], one.space());
         if let Some(what) = difference(step, &answers, one, other) {
             return Some(Difference {

@@ -136,17 +136,23 @@ impl World {
         }
     }
 
-    fn pick(&mut self, engine: &dyn Engine, sizes: Sizes, account: usize) -> Answer {
+    /// After a pick: its record copied too, for every fourth account to a space that is one
+    /// octet too short.
+    pub fn copy_picked(&mut self, engine: &dyn Engine, step: &Step) {
+        let Step::Pick { sizes, account } = step else {
+            return;
+        };
         let book = &self.book[..sizes.book];
         let table = &self.table[..sizes.table];
-        // One octet too short for every fourth account.
-        let room = if account % 4 == 3 {
-            PLACE - 1
-        } else {
-            COPY - 1
-        };
+        let short = account % 4 == 3;
+        let room = if short { PLACE - 1 } else { COPY - 1 };
         let space = &mut self.copied[..room];
-        self.copied_count = engine.pick_record(book, table, &self.state, account, space);
+        self.copied_count = engine.pick_record(book, table, &self.state, *account, space);
+    }
+
+    fn pick(&self, engine: &dyn Engine, sizes: Sizes, account: usize) -> Answer {
+        let book = &self.book[..sizes.book];
+        let table = &self.table[..sizes.table];
         Answer {
             number: engine.pick_number(book, table, &self.state, account),
             picked: engine.pick_at(book, table, &self.state, account),

@@ -1,12 +1,11 @@
 -- `centre::operations::pick` meets its contract. Assumes nothing.
 use mathlib.Core.Path.{refl, sym, ap, _∙_, subst}
-use Prim.Native.Nat.{ℕ, _*_}
+use Prim.Native.Nat.{ℕ}
 use native.Mathlib.Omega.{arith}
-use Rattle.octets.specs.Stretch.{part}
 use Rattle.octets.specs.Lent.{lent, lentPart}
-use Rattle.octets.proofs.LentLaws.{lent-cut}
-use Rattle.octets.proofs.StretchLaws.{part-cut, part-part}
+use Rattle.octets.proofs.LentLaws.{held, lent-cut}
 use Rattle.centre.specs.Pick.{WithinTable, Inside}
+use Rattle.centre.proofs.PlacedLaws.{place-part}
 use Rattle.centre.specs.declared.operations.Placed.{Placed}
 use borrow.Author.Needs.{needs}
 use Rattle.centre.proofs.operations.pick.Statement.{statement}
@@ -43,14 +42,12 @@ returns : tie.Need-returns
 returns c = rw (← (c .before .before .before .locate .ensures .0), c .before .enum-told .given .1) (refl, refl)
 
 returns-2 : tie.Need-returns-2
-returns-2 c = let w : WithinTable (c .before .before .before .before .before .before .before .before .args .account) (c .before .before .before .placed .given .0 .0) (c .before .before .before .before .before .before .before .before .args .table .now) = subst (λ (p : Placed). Inside p (c .before .before .before .before .before .before .before .before .args .account) (c .before .before .before .before .before .before .before .before .args .table .now)) (c .before .before .before .placed .given .1) (c .before .before .before .before .before .locate .ensures .1) in
+returns-2 c = let w : WithinTable (c .before .before .before .before .before .before .before .before .args .account) (c .before .before .before .placed .given .0 .0) (c .before .before .before .before .before .before .before .before .args .table .now) = subst (λ (p : Placed). Inside p (c .before .before .before .before .before .before .before .before .args .account) (c .before .before .before .before .before .before .before .before .args .table .now)) (c .before .before .before .placed .given .1) (c .before .before .before .before .before .locate .ensures .1) in 
     let t = c .before .before .before .before .before .before .before .before .args .table in
-    rw (← (c .before .before .before .before .before .locate .ensures .0), c .before .before .before .placed .given .1) (
-      lent-cut (lent t) (c .before .start-of .result) 256 (omega (arith, c .before .start-of .ensures, w .accountFits, w .placeFits, w .tableFits))
-          ∙ ap (λ (at : ℕ). lentPart at 256 (lent t)) (c .before .start-of .ensures),
-      part-cut (c .before .start-of .result) 256 (t .now) ∙ ap (λ (at : ℕ). part at 256 (t .now)) (c .before .start-of .ensures)
-          ∙ sym (part-part (t .now) (4096 * c .before .before .before .before .before .before .before .before .args .account) 4096 (256 * c .before .before .before .placed .given .0 .0) 256 (omega (arith, w .placeFits))),
-    )
+    let there = lent-cut (lent t) (c .before .start-of .result) 256 (omega (arith, c .before .start-of .ensures, w .accountFits, w .placeFits, w .tableFits))
+    ∙ ap (λ (at : ℕ). lentPart at 256 (lent t)) (c .before .start-of .ensures) in
+    rw (← (c .before .before .before .before .before .locate .ensures .0), c .before .before .before .placed .given .1)
+    (there, held (there ∙ sym (place-part (c .before .before .before .before .before .before .before .before .args .account) (c .before .before .before .placed .given .0 .0) (lent t) (w .placeFits))))
 
 pub pick-spec : {M : Type 1} → statement M
 pick-spec =
