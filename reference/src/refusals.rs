@@ -440,11 +440,12 @@ impl<'a> Error<'a> {
 
 /// What the prover says where a proof speaks of calls, tests or needs that the changed code
 /// doesn't have.
-const MISFITS: [&str; 4] = [
+const MISFITS: [&str; 5] = [
     "that can be named from here",
     "has no field `",
     "neither the goal nor the list settles argument",
     ".result) (?",
+    " c) → Prim.⊥`",
 ];
 
 #[cfg(test)]
@@ -654,6 +655,13 @@ pub record Good (r : List ℕ) : Type 0 where
     fn a_test_of_something_else_than_a_call_gave_is_a_misfit() {
         assert!(is_misfit(
             "`returns`: as printed, the two types first differ where one has `c` (expected)\n  expected type `_≡_ (c .before .is-none .result) (?3 c)`, but this has type `_≡_ (borrow.Table.Row.get 5 locals) true`"
+        ));
+    }
+
+    #[test]
+    fn a_test_for_the_opposite_is_a_misfit() {
+        assert!(is_misfit(
+            "`returns-3`: expected type `_≡_ {A = ℕ} (?0 c) (?1 c) → Prim.⊥`\n  but this has type `_≡_ (borrow.Table.Row.get 2 locals) 0`"
         ));
     }
 
