@@ -32,7 +32,9 @@ fn main() -> ExitCode {
 }
 
 fn arguments(words: &[String]) -> Option<(u64, u64, Option<u64>)> {
-    let steps = words.first().map_or(Some(STEPS), |word| word.parse().ok())?;
+    let steps = words
+        .first()
+        .map_or(Some(STEPS), |word| word.parse().ok())?;
     let seed = words.get(1).map_or(Some(1), |word| word.parse().ok())?;
     let recorded = match words.get(2) {
         Some(word) => Some(u64::from_str_radix(word, 16).ok()?),

@@ -42,7 +42,7 @@ returns : tie.Need-returns
 returns c = rw (← (c .before .before .before .locate .ensures .0), c .before .enum-told .given .1) (refl, refl)
 
 returns-2 : tie.Need-returns-2
-returns-2 c = let w : WithinTable (c .before .before .before .before .before .before .before .before .args .account) (c .before .before .before .placed .given .0 .0) (c .before .before .before .before .before .before .before .before .args .table .now) = subst (λ (p : Placed). Inside p (c .before .before .before .before .before .before .before .before .args .account) (c .before .before .before .before .before .before .before .before .args .table .now)) (c .before .before .before .placed .given .1) (c .before .before .before .before .before .locate .ensures .1) in 
+returns-2 c = let w : WithinTable (c .before .before .before .before .before .before .before .before .args .account) (c .before .before .before .placed .given .0 .0) (c .before .before .before .before .before .before .before .before .args .table .now) = subst (λ (p : Placed). Inside p (c .before .before .before .before .before .before .before .before .args .account) (c .before .before .before .before .before .before .before .before .args .table .now)) (c .before .before .before .placed .given .1) (c .before .before .before .before .before .locate .ensures .1) in
     let t = c .before .before .before .before .before .before .before .before .args .table in
     let there = lent-cut (lent t) (c .before .start-of .result) 256 (omega (arith, c .before .start-of .ensures, w .accountFits, w .placeFits, w .tableFits))
     ∙ ap (λ (at : ℕ). lentPart at 256 (lent t)) (c .before .start-of .ensures) in
