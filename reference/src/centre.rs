@@ -9,8 +9,10 @@ pub mod command;
 mod fault;
 mod message;
 mod operations;
+mod out;
 mod party;
 mod reader;
+mod receipt;
 mod refusal;
 mod reply;
 mod request;
@@ -24,9 +26,10 @@ pub use fault::Fault;
 pub use message::{layout, Message, Place, PLACE};
 pub use operations::Report;
 pub use party::Party;
+pub use receipt::LONGEST_RECEIPT;
 pub use refusal::{Refusal, DONE};
 pub use reply::LONGEST_REPLY;
-pub use state::{Entry, PlainState, State, ACCOUNTS, SESSIONS};
+pub use state::{Entry, PlainState, Receipt, State, ACCOUNTS, SESSIONS};
 pub use status::Status;
 pub use take::{Taken, LONGEST_PDU};
 pub use text::{is_time, message_id, STAMP};
@@ -65,7 +68,7 @@ impl Reference {
     }
 }
 
-/// What the caller lends for one call.
+/// What the caller lends for one call that changes the table.
 pub struct Lent<'a> {
     pub book: &'a [u8],
     pub table: &'a mut [u8],
@@ -92,6 +95,27 @@ impl<'a> Lent<'a> {
 struct Records<'a> {
     book: &'a [[u8; BOOK_RECORD]],
     places: &'a mut [Place],
+}
+
+/// What the caller lends for one call that leaves the table as it is.
+#[derive(Clone, Copy)]
+pub struct View<'a> {
+    pub book: &'a [u8],
+    pub table: &'a [u8],
+}
+
+impl<'a> View<'a> {
+    pub fn new(book: &'a [u8], table: &'a [u8]) -> Self {
+        View { book, table }
+    }
+
+    /// Splits both into records, if they have the outline's sizes.
+    fn records(self) -> Result<(&'a [[u8; BOOK_RECORD]], &'a [Place]), Refusal> {
+        if self.book.len() != BOOK || self.table.len() != TABLE {
+            return Err(Refusal::WrongSize);
+        }
+        Ok((self.book.as_chunks().0, self.table.as_chunks().0))
+    }
 }
 
 /// Number 9: an account is worked on only while all of it is well formed.

@@ -11,8 +11,8 @@ mod world;
 
 pub use difference::{compare, Difference};
 pub use digest::Digest;
-pub use engine::{Engine, Moved, Sent, Taken};
-pub use history::{History, Outcome, Sizes, Step, Take, PLAIN_STAMP};
+pub use engine::{Delivered, Engine, Moved, Sent, Taken};
+pub use history::{Deliver, History, Outcome, Sizes, Step, Take, PLAIN_STAMP};
 pub use shrink::shrink;
 pub use tally::Tally;
 pub use words::describe;

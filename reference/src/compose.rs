@@ -146,6 +146,13 @@ pub fn pdu(command: u32, sequence: u32, body: &[u8]) -> Vec<u8> {
     pdu
 }
 
+/// The answer to a receipt. SMPP v3.3 gives it a message id, which the centre doesn't read.
+pub fn deliver_sm_resp(status: u32, sequence: u32, body: &[u8]) -> Vec<u8> {
+    let mut answer = pdu(command::DELIVER_SM_RESP, sequence, body);
+    answer[8..12].copy_from_slice(&status.to_be_bytes());
+    answer
+}
+
 /// Writes a new command length into a PDU.
 pub fn set_length(pdu: &mut [u8], length: u32) {
     pdu[..4].copy_from_slice(&length.to_be_bytes());

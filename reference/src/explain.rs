@@ -21,8 +21,8 @@ pub fn line(line: &str) -> Result<String, String> {
     let number = number
         .parse()
         .ok()
-        .filter(|&number: &u8| number <= 11)
-        .ok_or_else(|| format!("expected an answer from 0 to 11, found \"{number}\""))?;
+        .filter(|&number: &u8| number == DONE || Refusal::of_number(number).is_some())
+        .ok_or_else(|| format!("expected the number that a call answers, found \"{number}\""))?;
     let consumed: usize = consumed
         .parse()
         .map_err(|_| format!("expected a count of octets, found \"{consumed}\""))?;
@@ -54,10 +54,14 @@ fn reply_words(printed: &str) -> Result<String, String> {
     }
     let octets = hex::octets(printed)
         .map_err(|error| format!("expected a reply in hex or \"-\": {error}"))?;
-    Ok(format!("; reply: {}", reply(&octets)?))
+    let what = match Header::of(&octets) {
+        Some(header) if header.command == command::DELIVER_SM => "to send",
+        _ => "reply",
+    };
+    Ok(format!("; {what}: {}", reply(&octets)?))
 }
 
-/// Explains a reply of the centre.
+/// Explains a reply of the centre, or the one request that it sends.
 pub fn reply(octets: &[u8]) -> Result<String, String> {
     let header = Header::of(octets).ok_or_else(|| {
         format!(
@@ -71,6 +75,9 @@ pub fn reply(octets: &[u8]) -> Result<String, String> {
             header.length,
             octets.len()
         ));
+    }
+    if header.command == command::DELIVER_SM {
+        return Ok(request::in_words(&header, octets));
     }
     let name = command_name(header.command).ok_or_else(|| {
         format!(
@@ -114,6 +121,7 @@ pub fn command_name(id: u32) -> Option<&'static str> {
         command::BIND_TRANSMITTER => "bind_transmitter",
         command::QUERY_SM => "query_sm",
         command::SUBMIT_SM => "submit_sm",
+        command::DELIVER_SM => "deliver_sm",
         command::UNBIND => "unbind",
         command::REPLACE_SM => "replace_sm",
         command::CANCEL_SM => "cancel_sm",
@@ -124,6 +132,7 @@ pub fn command_name(id: u32) -> Option<&'static str> {
             command::BIND_TRANSMITTER => "bind_transmitter_resp",
             command::QUERY_SM => "query_sm_resp",
             command::SUBMIT_SM => "submit_sm_resp",
+            command::DELIVER_SM => "deliver_sm_resp",
             command::UNBIND => "unbind_resp",
             command::REPLACE_SM => "replace_sm_resp",
             command::CANCEL_SM => "cancel_sm_resp",
@@ -155,6 +164,18 @@ pub fn status_name(status: u32) -> &'static str {
         19 => "ESME_RCNTREPMSG, cannot replace a message",
         20 => "ESME_RMSGQFUL, too many messages in queue",
         _ => "a status that this centre doesn't give",
+    }
+}
+
+/// A message's state as the table has it, and receipts.
+pub fn stored_state_name(state: u8) -> &'static str {
+    match state {
+        1 => "waiting",
+        2 => "delivered",
+        3 => "expired",
+        4 => "deleted",
+        5 => "undeliverable",
+        _ => "in no state that a message has",
     }
 }
 

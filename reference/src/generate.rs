@@ -5,10 +5,12 @@
 //! is in the table and so to ask for messages that exist.
 
 mod accounts;
+mod answers;
 mod calls;
 mod damage;
 mod faults;
 mod places;
+mod receipts;
 mod requests;
 mod texts;
 mod wounds;
@@ -17,6 +19,7 @@ use crate::centre::{Entry, Message, Place, Reference, ACCOUNTS, PLACES, SESSIONS
 use crate::compare::{Answer, History, Outcome, Sizes, Step, Take, World};
 use crate::compose::{Request, Role};
 use crate::random::Random;
+use receipts::Stream;
 use wounds::Wound;
 
 pub use accounts::book;
@@ -53,6 +56,8 @@ struct Generator {
     outcomes: usize,
     sequence: u32,
     wounds: Vec<Wound>,
+    /// What steps about receipts draw from.
+    aside: Stream,
 }
 
 impl Generator {
@@ -78,6 +83,7 @@ impl Generator {
             sequence: random.below(1000) as u32,
             wounds: Vec::new(),
             random,
+            aside: Stream::aside(seed),
         }
     }
 
@@ -108,6 +114,7 @@ impl Generator {
 
     fn advance(&mut self) {
         self.heal();
+        self.receipts();
         let [sound, request, call, wound, several, raw] = match self.manner {
             Manner::Everything => [74, 12, 5, 5, 3, 1],
             Manner::Records => [80, 13, 3, 0, 3, 1],

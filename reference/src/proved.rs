@@ -4,8 +4,8 @@
 //! caller: pointers that are valid for their lengths, and none that overlaps one that is
 //! written to.
 
-use crate::centre::{Lent, PlainState, Report};
-use crate::compare::{Engine, Moved, Sent, Taken};
+use crate::centre::{Lent, PlainState, Report, View};
+use crate::compare::{Delivered, Engine, Moved, Sent, Taken};
 
 extern "C" {
     fn inverook_open(state: PlainState, session: usize) -> Moved;
@@ -40,6 +40,18 @@ extern "C" {
         outcome: u8,
         error: u8,
     ) -> u8;
+
+    fn inverook_deliver(
+        book: *const u8,
+        book_length: usize,
+        table: *const u8,
+        table_length: usize,
+        state: PlainState,
+        session: usize,
+        sequence: u32,
+        space: *mut u8,
+        space_length: usize,
+    ) -> Delivered;
 
     fn inverook_pick_record(
         book: *const u8,
@@ -138,6 +150,30 @@ impl Engine for Proved {
                 report.id,
                 report.outcome,
                 report.error,
+            )
+        }
+    }
+
+    fn deliver(
+        &self,
+        view: View<'_>,
+        state: &PlainState,
+        session: usize,
+        sequence: u32,
+        space: &mut [u8],
+    ) -> Delivered {
+        // SAFETY: as in `take`; only the space is written to.
+        unsafe {
+            inverook_deliver(
+                view.book.as_ptr(),
+                view.book.len(),
+                view.table.as_ptr(),
+                view.table.len(),
+                *state,
+                session,
+                sequence,
+                space.as_mut_ptr(),
+                space.len(),
             )
         }
     }

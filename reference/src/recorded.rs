@@ -9,7 +9,8 @@ pub fn orders(history: &History) -> Option<Vec<Order>> {
     history.steps.iter().map(order).collect()
 }
 
-fn order(step: &Step) -> Option<Order> {
+/// The order of a step; none if no record can say it.
+pub fn order(step: &Step) -> Option<Order> {
     match step {
         Step::Open { session } => Some(Order::Open {
             session: octet(*session)?,

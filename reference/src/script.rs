@@ -1,4 +1,4 @@
-//! Readable scripts: one step a line, turned into records of the printing program.
+//! Readable scripts: one step a line, to be played or turned into records of the printing program.
 //!
 //! ```text
 //! # what stands behind a sharp sign isn't read
@@ -10,11 +10,17 @@
 //! replace 0 00000001 from "" "hello again"
 //! cancel 0 00000001 from "" to 447700900123
 //! outcome 0 00000001 delivered error 0
+//! deliver 1 700
+//! answer 1 700 status 8
 //! octets 0 00000010 00000015 00000000 00000007
 //! enquire 0
 //! unbind 0
 //! close 0
 //! ```
+//!
+//! `deliver` asks for a receipt on a session, to be sent with that sequence number, and `answer`
+//! is its deliver_sm_resp, with status 0 unless another is said. The printing program has no
+//! record for a receipt: a script that asks for one can only be played.
 //!
 //! Requests are numbered from 1 unless `sequence` says otherwise. An address is written as
 //! digits, or as ton/npi/digits. A text stands in quotation marks, where `\"`, `\\` and `\x`
@@ -27,11 +33,11 @@
 //! validity, registered and default; for `outcome`, error.
 
 pub(crate) mod book;
-pub(crate) mod orders;
+pub(crate) mod steps;
 pub(crate) mod words;
 
 pub use book::book;
-pub use orders::{orders, ScriptedOrder};
+pub use steps::{orders, steps, ScriptedOrder, ScriptedStep};
 
 /// A line that can't be read.
 #[derive(Clone, Debug, PartialEq, Eq)]

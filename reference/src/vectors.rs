@@ -27,23 +27,28 @@
 //! number, consumed count and reply in hex (or `-`), as the printing program has them; and in
 //! short, of one whole request: `status N`, a reply with the body that it has when refused
 //! (or always); `id ID`, an accepted submission; `found ID state N error N date TIME`, an
-//! answered query, without date where there is none. Of a pick: `0 place PLACE`.
+//! answered query, without date where there is none. Of a pick: `0 place PLACE`. Of a deliver:
+//! number and deliver_sm in hex, and in short `receipt ID state N from SOURCE to DESTINATION`,
+//! the two as they stand in the receipt.
 //!
 //! **What is looked at**, on lines of its own: `entry SESSION` and closed, open, ended, or
-//! transmitter or receiver with an account; `last ACCOUNT ID`; `states ACCOUNT` and `ids
-//! ACCOUNT` with sixteen numbers; `record ACCOUNT PLACE empty`, or with state, id, `final
-//! TIME`, `error N` and then all that a submission has; `holds ACCOUNT PLACE at OCTET` and
-//! pieces; `changed ACCOUNT place PLACE at 0 233-248 ..`, the octets of the table that the last
-//! call changed, or `changed nothing`.
+//! transmitter or receiver with an account; `outstanding SESSION` and none, or an id and a
+//! sequence number, as they stand in the state; `last ACCOUNT ID`; `states ACCOUNT`, `marks
+//! ACCOUNT` and `ids ACCOUNT` with sixteen numbers; `record ACCOUNT PLACE empty`, or with state,
+//! id, `final TIME`, `error N`, `marked` and then all that a submission has; `holds ACCOUNT PLACE
+//! at OCTET` and pieces; `changed ACCOUNT place PLACE at 0 233-248 ..`, the octets of the table
+//! that the last call changed, or `changed nothing`.
 //!
-//! **What is set**: `stamp`, `sequence`, `space OCTETS` and `lend BOOK TABLE` for the lines
-//! behind; `account` in the book, where nothing has to be well formed; `put book ACCOUNT at
-//! OCTET` and `put record ACCOUNT PLACE at OCTET`, with pieces; `put last ACCOUNT ID`; `put
-//! entry SESSION` and an entry.
+//! **What is set**: `stamp`, `sequence`, `space OCTETS` (else what the call needs) and `lend BOOK
+//! TABLE` for the lines behind; `account` in the book, where nothing has to be well formed; `put
+//! book ACCOUNT at OCTET` and `put record ACCOUNT PLACE at OCTET`, with pieces; `put last ACCOUNT
+//! ID`; `put entry SESSION` and an entry; `put outstanding SESSION` and a receipt, on whatever
+//! session.
 //!
 //! Ids are in hex everywhere, other numbers in decimal. Besides what a line expects, every
 //! call is held to this: where its number isn't 0 it changes nothing, where its reply's status
-//! isn't 0 it changes no message and no last id, and it leaves the space behind the reply.
+//! isn't 0 or it writes a receipt it changes no message and no last id, and it leaves the space
+//! behind what it writes.
 
 mod expected;
 mod files;

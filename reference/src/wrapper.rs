@@ -6,7 +6,10 @@
 //! when the centre is made, outcomes that don't exist can't be named, and what the library
 //! hands back is never used without being looked at.
 
-use crate::centre::{Lent, PlainState, Refusal, Report, BOOK, DONE, LONGEST_REPLY, PLACE, TABLE};
+use crate::centre::{
+    Lent, PlainState, Refusal, Report, View, BOOK, DONE, LONGEST_RECEIPT, LONGEST_REPLY, PLACE,
+    TABLE,
+};
 use crate::compare::{Engine, Sent};
 use std::ops::Deref;
 
@@ -45,13 +48,26 @@ pub struct Taken {
 }
 
 /// The octets to send back; none of them where a response was taken.
+pub type Reply = Octets<LONGEST_REPLY>;
+
+/// The octets of a deliver_sm to send to a receiver.
+pub type Receipt = Octets<LONGEST_RECEIPT>;
+
+/// Octets that were written to a space with some room.
 #[derive(Clone, Debug, PartialEq, Eq)]
-pub struct Reply {
-    space: [u8; LONGEST_REPLY],
+pub struct Octets<const ROOM: usize> {
+    space: [u8; ROOM],
     written: usize,
 }
 
-impl Deref for Reply {
+impl<const ROOM: usize> Octets<ROOM> {
+    fn new(space: [u8; ROOM], written: usize) -> Self {
+        assert!(written <= ROOM, "more written than there was room");
+        Octets { space, written }
+    }
+}
+
+impl<const ROOM: usize> Deref for Octets<ROOM> {
     type Target = [u8];
 
     fn deref(&self) -> &[u8] {
@@ -134,14 +150,30 @@ impl<E: Engine> Centre<E> {
             Err(Refusal::MoreNeeded) => return Ok(None),
             result => result?,
         }
-        let (consumed, written) = (taken.consumed, taken.written);
+        let consumed = taken.consumed;
         assert!(consumed <= octets.len(), "more consumed than there was");
-        assert!(written <= space.len(), "more written than there was room");
         self.state = taken.state;
         Ok(Some(Taken {
             consumed,
-            reply: Reply { space, written },
+            reply: Reply::new(space, taken.written),
         }))
+    }
+
+    /// The next receipt for a receiver; none where nothing is owed. It is to be sent to the
+    /// session's peer with the sequence number given here, and its answer comes through `take`.
+    /// Until then the session gets no other; closing the session makes the receipt owed again.
+    pub fn deliver(&mut self, session: usize, sequence: u32) -> Result<Option<Receipt>, Refusal> {
+        let mut space = [0; LONGEST_RECEIPT];
+        let view = View::new(&self.book, &self.table);
+        let delivered = self
+            .engine
+            .deliver(view, &self.state, session, sequence, &mut space);
+        match accept(delivered.number) {
+            Err(Refusal::NothingOwed) => return Ok(None),
+            result => result?,
+        }
+        self.state = delivered.state;
+        Ok(Some(Receipt::new(space, delivered.written)))
     }
 
     /// Reports what became of a waiting message.
@@ -181,7 +213,7 @@ impl<E: Engine> Centre<E> {
     }
 }
 
-/// Turns a number into a result. A number that the outline doesn't have would mean that the
+/// Turns a number into a result. A number that the documents don't have would mean that the
 /// library isn't the one that this was written for.
 fn accept(number: u8) -> Result<(), Refusal> {
     if number == DONE {
@@ -189,6 +221,6 @@ fn accept(number: u8) -> Result<(), Refusal> {
     }
     match Refusal::of_number(number) {
         Some(refusal) => Err(refusal),
-        None => panic!("the library answered {number}, which is no number of the outline"),
+        None => panic!("the library answered {number}, which is no number of the documents"),
     }
 }

@@ -15,7 +15,7 @@ pub const SUBMIT_RESPONSE: u32 = 0x8000_0004;
 
 pub const QUERY_RESPONSE: u32 = 0x8000_0003;
 
-fn put_header(space: &mut [u8], size: u32, id: u32, status: u8, sequence: u32)
+pub fn put_header(space: &mut [u8], size: u32, id: u32, status: u8, sequence: u32)
     requires { ⌜ 16 ≤ length (now space) ⌝ }
     ensures { λ _. ⌜ now (space .exit) ≡ patch (now (space .entry)) 0 (header size id status sequence) ⌝ }
 {

@@ -1,9 +1,11 @@
-// Octets on a bound session: what is asked of one account, of which its book record, its part of the table and its last id are at hand.
+// Octets on a bound session: what is asked of one account, of which its book record, its part of the table and its last id are at hand, and the
+// receipt that is outstanding on the session.
 use answers::fixed;
 use answers::reply;
 use forms::text::MessageId;
 use records::layout;
 use requests::plain;
+use session::Receipt;
 use session::number;
 use store::places::Found;
 use wire::frame;
@@ -15,14 +17,13 @@ ghost use Prim.Native.Nat.{_<_, _≤_};
 ghost use mathlib.Core.List.{[]};
 ghost use lib.ListN.{length};
 ghost use Rattle.forms.specs.Time.{timeLength};
-ghost use Rattle.wire.specs.Frame.{frameOf};
+ghost use Rattle.wire.specs.Frame.{frameOf, headerOf};
 ghost use Rattle.wire.specs.Status.{alreadyBound};
 ghost use Rattle.answers.specs.Reply.{spaceNeeded, bindBody, reply, over, wrote};
 ghost use Rattle.records.specs.Layout.{places, partSize};
 ghost use Rattle.records.specs.Book.{bookRecordSize};
 ghost use Rattle.store.specs.Places.{recordAt};
-ghost use Rattle.isolation.specs.Platform.{owning};
-ghost use Rattle.bound.specs.Bound.{wireState, foundBody, submitTurn, queryTurn, cancelTurn, replaceTurn, unbindTurn, replying, boundPdu, boundFrame, onBound, acts};
+ghost use Rattle.bound.specs.Bound.{wireState, foundBody, submitTurn, queryTurn, cancelTurn, replaceTurn, unbindTurn, replying, boundPdu, boundFrame, onBound, storing, holding, settledBy, acts, handles};
 
 // What an account's turn comes to; its part stands where it was lent.
 pub struct Acted {
@@ -69,7 +70,7 @@ fn submit_turn(
     last: u32,
 ) -> Acted
     requires { ⌜ (length (now book) ≡ bookRecordSize) × ((length (now part) ≡ partSize) × (spaceNeeded ≤ length (now space))) ⌝ }
-    ensures { λ r. ⌜ acts r (now (part .exit)) (now (space .exit)) ≡ replying consumed 0x80000004 sequence (submitTurn transmitter (now (book .entry)) (now (body .entry)) (owning (now (part .entry)) last)) (now (space .entry)) ⌝ }
+    ensures { λ r. ⌜ acts r (now (part .exit)) (now (space .exit)) ≡ replying consumed 0x80000004 sequence (submitTurn transmitter (now (book .entry)) (now (body .entry)) (storing (now (part .entry)) last)) (now (space .entry)) ⌝ }
 {
     if !transmitter {
         let written = fixed::no_submission(space, sequence);
@@ -119,7 +120,7 @@ fn query_turn(
     last: u32,
 ) -> Acted
     requires { ⌜ (length (now book) ≡ bookRecordSize) × ((length (now part) ≡ partSize) × (spaceNeeded ≤ length (now space))) ⌝ }
-    ensures { λ r. ⌜ acts r (now (part .entry)) (now (space .exit)) ≡ replying consumed 0x80000003 sequence (queryTurn transmitter (now (book .entry)) (now (body .entry)) (owning (now (part .entry)) last)) (now (space .entry)) ⌝ }
+    ensures { λ r. ⌜ acts r (now (part .entry)) (now (space .exit)) ≡ replying consumed 0x80000003 sequence (queryTurn transmitter (now (book .entry)) (now (body .entry)) (storing (now (part .entry)) last)) (now (space .entry)) ⌝ }
 {
     if !transmitter {
         let written = fixed::no_query(space, status::INVALID_BIND_STATUS, sequence);
@@ -147,7 +148,7 @@ fn cancel_turn(
     last: u32,
 ) -> Acted
     requires { ⌜ ((length (now book) ≡ bookRecordSize) × (length (now stamp) ≡ timeLength)) × ((length (now part) ≡ partSize) × (spaceNeeded ≤ length (now space))) ⌝ }
-    ensures { λ r. ⌜ acts r (now (part .exit)) (now (space .exit)) ≡ replying consumed 0x80000008 sequence (cancelTurn transmitter (now (book .entry)) (now (stamp .entry)) (now (body .entry)) (owning (now (part .entry)) last)) (now (space .entry)) ⌝ }
+    ensures { λ r. ⌜ acts r (now (part .exit)) (now (space .exit)) ≡ replying consumed 0x80000008 sequence (cancelTurn transmitter (now (book .entry)) (now (stamp .entry)) (now (body .entry)) (storing (now (part .entry)) last)) (now (space .entry)) ⌝ }
 {
     if !transmitter {
         let written = fixed::wrong_state(space, 0x8000_0008, sequence);
@@ -169,7 +170,7 @@ fn replace_turn(
     last: u32,
 ) -> Acted
     requires { ⌜ (length (now book) ≡ bookRecordSize) × ((length (now part) ≡ partSize) × (spaceNeeded ≤ length (now space))) ⌝ }
-    ensures { λ r. ⌜ acts r (now (part .exit)) (now (space .exit)) ≡ replying consumed 0x80000007 sequence (replaceTurn transmitter (now (book .entry)) (now (body .entry)) (owning (now (part .entry)) last)) (now (space .entry)) ⌝ }
+    ensures { λ r. ⌜ acts r (now (part .exit)) (now (space .exit)) ≡ replying consumed 0x80000007 sequence (replaceTurn transmitter (now (book .entry)) (now (body .entry)) (storing (now (part .entry)) last)) (now (space .entry)) ⌝ }
 {
     if !transmitter {
         let written = fixed::wrong_state(space, 0x8000_0007, sequence);
@@ -182,7 +183,7 @@ fn replace_turn(
 
 fn unbind_turn(consumed: usize, sequence: u32, body: &[u8], space: &mut [u8], last: u32) -> Acted
     requires { ⌜ spaceNeeded ≤ length (now space) ⌝ }
-    ensures { λ r. ⌜ acts r [] (now (space .exit)) ≡ replying consumed 0x80000006 sequence (unbindTurn (now (body .entry)) (owning [] last)) (now (space .entry)) ⌝ }
+    ensures { λ r. ⌜ acts r [] (now (space .exit)) ≡ replying consumed 0x80000006 sequence (unbindTurn (now (body .entry)) (storing [] last)) (now (space .entry)) ⌝ }
 {
     let status = requests::plain::read_plain(body);
     let written = reply::bare(space, 0x8000_0006, status, sequence);
@@ -213,7 +214,7 @@ fn command(
     last: u32,
 ) -> Acted
     requires { ⌜ ((length (now book) ≡ bookRecordSize) × (length (now stamp) ≡ timeLength)) × ((16 ≤ length (now pdu)) × ((length (now part) ≡ partSize) × (spaceNeeded ≤ length (now space)))) ⌝ }
-    ensures { λ r. ⌜ acts r (now (part .exit)) (now (space .exit)) ≡ boundPdu transmitter (now (book .entry)) (now (stamp .entry)) (now (pdu .entry)) (now (space .entry)) (owning (now (part .entry)) last) ⌝ }
+    ensures { λ r. ⌜ acts r (now (part .exit)) (now (space .exit)) ≡ boundPdu transmitter (now (book .entry)) (now (stamp .entry)) (now (pdu .entry)) (now (space .entry)) (storing (now (part .entry)) last) ⌝ }
 {
     let header = frame::read_header(pdu);
     let id = header.command;
@@ -248,6 +249,32 @@ fn command(
     }
 }
 
+// What octets come to, and the session's receipt afterwards.
+pub struct Handled {
+    pub acted: Acted,
+    pub receipt: Receipt,
+}
+
+// A PDU is answered, and then may settle the receipt.
+fn handle(
+    transmitter: bool,
+    book: &[u8],
+    stamp: &[u8],
+    pdu: &[u8],
+    space: &mut [u8],
+    part: &mut [u8],
+    last: u32,
+    receipt: Receipt,
+) -> Handled
+    requires { ⌜ ((length (now book) ≡ bookRecordSize) × (length (now stamp) ≡ timeLength)) × ((16 ≤ length (now pdu)) × ((length (now part) ≡ partSize) × (spaceNeeded ≤ length (now space)))) ⌝ }
+    ensures { λ r. ⌜ handles r (now (part .exit)) (now (space .exit)) ≡ settledBy (headerOf (now (pdu .entry))) receipt (boundPdu transmitter (now (book .entry)) (now (stamp .entry)) (now (pdu .entry)) (now (space .entry)) (storing (now (part .entry)) last)) ⌝ }
+{
+    let acted = command(transmitter, book, stamp, pdu, space, part, last);
+    let header = frame::read_header(pdu);
+    let receipt = receipts::settle::settle(part, header, receipt);
+    Handled { acted, receipt }
+}
+
 // The first PDU of the octets.
 fn framed(
     transmitter: bool,
@@ -257,24 +284,38 @@ fn framed(
     space: &mut [u8],
     part: &mut [u8],
     last: u32,
-) -> Acted
+    receipt: Receipt,
+) -> Handled
     requires { ⌜ ((length (now book) ≡ bookRecordSize) × (length (now stamp) ≡ timeLength)) × ((length (now part) ≡ partSize) × (spaceNeeded ≤ length (now space))) ⌝ }
-    ensures { λ r. ⌜ acts r (now (part .exit)) (now (space .exit)) ≡ boundFrame transmitter (now (book .entry)) (now (octets .entry)) (now (stamp .entry)) (now (space .entry)) (frameOf (now (octets .entry))) (owning (now (part .entry)) last) ⌝ }
+    ensures { λ r. ⌜ handles r (now (part .exit)) (now (space .exit)) ≡ boundFrame transmitter (now (book .entry)) (now (octets .entry)) (now (stamp .entry)) (now (space .entry)) (frameOf (now (octets .entry))) (holding (now (part .entry)) last receipt) ⌝ }
 {
     let first = frame::frame_of(octets);
     match first {
-        Frame::More => unheard(number::MORE_NEEDED, last),
+        Frame::More => Handled {
+            acted: unheard(number::MORE_NEEDED, last),
+            receipt,
+        },
         Frame::Malformed => {
             let written = fixed::bad_length(space);
-            Acted {
+            let acted = Acted {
                 number: number::DONE,
                 consumed: 4,
                 written,
                 last,
                 ends: true,
-            }
+            };
+            Handled { acted, receipt }
         }
-        Frame::Whole(n) => command(transmitter, book, stamp, &octets[..n], space, part, last),
+        Frame::Whole(n) => handle(
+            transmitter,
+            book,
+            stamp,
+            &octets[..n],
+            space,
+            part,
+            last,
+            receipt,
+        ),
     }
 }
 
@@ -287,13 +328,15 @@ pub fn on_bound(
     space: &mut [u8],
     part: &mut [u8],
     last: u32,
-) -> Acted
+    receipt: Receipt,
+) -> Handled
     requires { ⌜ ((length (now book) ≡ bookRecordSize) × (length (now stamp) ≡ timeLength)) × ((length (now part) ≡ partSize) × (spaceNeeded ≤ length (now space))) ⌝ }
-    ensures { λ r. ⌜ acts r (now (part .exit)) (now (space .exit)) ≡ onBound transmitter (now (book .entry)) (record { octets = now (octets .entry); stamp = now (stamp .entry); space = now (space .entry) }) (owning (now (part .entry)) last) ⌝ }
+    ensures { λ r. ⌜ handles r (now (part .exit)) (now (space .exit)) ≡ onBound transmitter (now (book .entry)) (record { octets = now (octets .entry); stamp = now (stamp .entry); space = now (space .entry) }) (holding (now (part .entry)) last receipt) ⌝ }
 {
     if store::account::is_account_ok(book, last, &part[..]) {
-        framed(transmitter, book, octets, stamp, space, part, last)
+        framed(transmitter, book, octets, stamp, space, part, last, receipt)
     } else {
-        unheard(number::ACCOUNT_ILL_FORMED, last)
+        let acted = unheard(number::ACCOUNT_ILL_FORMED, last);
+        Handled { acted, receipt }
     }
 }

@@ -1,4 +1,4 @@
--- What is asked of one account (document 01, "Numbers a caller gets"), given its book record and what is its own: an outcome and a pick.
+-- What is asked of one account (document 01, "Numbers a caller gets"), given its book record, its last id and its part: an outcome and a pick.
 use Prim.Native.Nat.{ℕ}
 use mathlib.Core.Bool.{Bool, not, _||_}
 use mathlib.Core.List.{List}
@@ -17,22 +17,32 @@ use Rattle.bound.specs.Bound.{keeping}
 abbrev pub outcomeOk : ℕ → Bool
 outcomeOk state = eqb state 2 || eqb state 3 || eqb state 5
 
-unfoldable pub onOutcome : List ℕ → Outcome → Own → Effect Answer
-onOutcome book x own =
-    if not (outcomeOk (x .state)) then keeping (numbered 8) own
-    else if not (accountOk book (own .last) (own .part)) then keeping (numbered 9) own
-    else let c = reported (x .stamp) (x .id) (x .state) (x .error) (own .part) in
-    keeping (numbered (if c .waited then 0 else 10)) (owning (c .part) (own .last))
+-- a number, and the part afterwards
+pub record Noted : Type 0 where
+  pub number : ℕ
+  pub part : List ℕ
+
+abbrev pub noting : ℕ → List ℕ → Noted
+noting number part = record { number = number; part = part }
+
+unfoldable pub noted : List ℕ → Outcome → ℕ → List ℕ → Noted
+noted book x last part =
+    if not (outcomeOk (x .state)) then noting 8 part
+    else if not (accountOk book last part) then noting 9 part
+    else let c = reported (x .stamp) (x .id) (x .state) (x .error) part in
+    noting (if c .waited then 0 else 10) (c .part)
 
 -- ---- a pick: 9, 11
 
-unfoldable pub onPick : List ℕ → Own → Effect Answer
-onPick book own =
-    if not (accountOk book (own .last) (own .part)) then keeping (numbered 9) own
-    else onFound (nextPlace (own .part)) (λ k. keeping (picked k (recordAt k (own .part))) own) (keeping (numbered 11) own)
+unfoldable pub pickedFrom : List ℕ → ℕ → List ℕ → Answer
+pickedFrom book last part =
+    if not (accountOk book last part) then numbered 9
+    else onFound (nextPlace part) (λ k. picked k (recordAt k part)) (numbered 11)
 
--- ---- either
+-- ---- either: of what is the account's own a part may change, and nothing else
 
-abbrev pub onQuestion : List ℕ → Question → Own → Effect Answer
-onQuestion book (outcome x) own = onOutcome book x own
-onQuestion book pick own = onPick book own
+abbrev pub onQuestion : List ℕ → Question → Own → Effect Own Answer
+onQuestion book (outcome x) own =
+    let n = noted book x (own .last) (own .part) in
+    keeping (numbered (n .number)) (owning (n .part) (own .last) (own .receipts))
+onQuestion book pick own = keeping (pickedFrom book (own .last) (own .part)) own

@@ -10,7 +10,7 @@ use Rattle.records.specs.Book.{bookSize}
 use Rattle.store.specs.Places.{recordAt}
 use Rattle.session.specs.State.{accountCount}
 use Rattle.isolation.specs.Platform.{partSize, tableSize}
-use Rattle.answers.specs.Answer.{Answer, numbered, taken, picked}
+use Rattle.answers.specs.Answer.{Answer, numbered, taken, delivered, picked}
 use Rattle.centre.specs.declared.operations.Placed.{Placed}
 use Rattle.centre.specs.declared.operations.Placed.the-variants.{Refused, Place}
 
@@ -22,6 +22,7 @@ startOf a k = partSize * a + recordSize * k
 abbrev pub pickedPart : ℕ → Answer → Lent → Lent
 pickedPart a (numbered n) table = lentFirst 0 table
 pickedPart a (taken n consumed written space) table = lentFirst 0 table
+pickedPart a (delivered n written space) table = lentFirst 0 table
 pickedPart a (picked k r) table = lentPart (startOf a k) recordSize table
 
 -- a place of an account's part

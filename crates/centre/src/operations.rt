@@ -12,10 +12,9 @@ ghost use Rattle.forms.specs.Time.{timeLength};
 ghost use Rattle.records.specs.Book.{bookRecordSize};
 ghost use Rattle.records.specs.Layout.{places, partSize};
 ghost use Rattle.session.specs.State.{accountCount};
-ghost use Rattle.isolation.specs.Platform.{Step, owning, partOf};
-ghost use Rattle.answers.specs.Answer.{Question, numbered, numberOf, pickedRecord};
-ghost use Rattle.bound.specs.Bound.{keeping};
-ghost use Rattle.centre.specs.Operations.{outcomeOk, onOutcome, onPick};
+ghost use Rattle.isolation.specs.Platform.{Step, partOf};
+ghost use Rattle.answers.specs.Answer.{Question, numberOf, pickedRecord};
+ghost use Rattle.centre.specs.Operations.{outcomeOk, noting, noted, pickedFrom};
 ghost use Rattle.centre.specs.Centre.{outcomeEarly, pickEarly, step, world, reports};
 ghost use Rattle.centre.specs.Pick.{startOf, pickedPart, placed, OnePlace, Inside, Stamped, Sized};
 
@@ -47,7 +46,7 @@ fn on_outcome(
     error: u8,
 ) -> u8
     requires { ⌜ (length (now book) ≡ bookRecordSize) × ((length (now part) ≡ partSize) × (length (now stamp) ≡ timeLength)) ⌝ }
-    ensures { λ r. ⌜ keeping (numbered r) (owning (now (part .exit)) last) ≡ onOutcome (now (book .entry)) (record { stamp = now (stamp .entry); id = id; state = state; error = error }) (owning (now (part .entry)) last) ⌝ }
+    ensures { λ r. ⌜ noting r (now (part .exit)) ≡ noted (now (book .entry)) (record { stamp = now (stamp .entry); id = id; state = state; error = error }) last (now (part .entry)) ⌝ }
 {
     if !is_outcome(state) {
         return number::NO_OUTCOME;
@@ -83,7 +82,7 @@ pub fn outcome(
         return number::NO_ACCOUNT;
     }
     let record = records::book::record_of(book, account);
-    let last = state.last(account);
+    let last = state.lasts[account];
     let at = layout::PART_SIZE * account;
     on_outcome(
         record,
@@ -104,7 +103,7 @@ pub enum Placed {
 
 fn on_pick(book: &[u8], part: &[u8], last: u32) -> Placed
     requires { ⌜ (length (now book) ≡ bookRecordSize) × (length (now part) ≡ partSize) ⌝ }
-    ensures { λ r. ⌜ (keeping (placed r (now (part .entry))) (owning (now (part .entry)) last) ≡ onPick (now (book .entry)) (owning (now (part .entry)) last)) × OnePlace r ⌝ }
+    ensures { λ r. ⌜ (placed r (now (part .entry)) ≡ pickedFrom (now (book .entry)) last (now (part .entry))) × OnePlace r ⌝ }
 {
     if !store::account::is_account_ok(book, last, part) {
         return Placed::Refused(number::ACCOUNT_ILL_FORMED);
@@ -138,7 +137,7 @@ pub fn locate(book: &[u8], table: &[u8], state: State, account: usize) -> Placed
         return Placed::Refused(number::NO_ACCOUNT);
     }
     let record = records::book::record_of(book, account);
-    let last = state.last(account);
+    let last = state.lasts[account];
     let at = layout::PART_SIZE * account;
     on_pick(record, &table[at..at + layout::PART_SIZE], last)
 }

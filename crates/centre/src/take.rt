@@ -3,19 +3,21 @@ use crate::sizes;
 use answers::reply;
 use records::layout;
 use session::Entry;
+use session::Receipt;
 use session::State;
 use session::number;
 ghost use mathlib.Core.Path.{_≡_};
 ghost use Prim.Native.Nat.{ℕ, _<_, _≤_};
 ghost use mathlib.Core.List.{List};
-ghost use lib.ListN.{length};
+ghost use lib.ListN.{length, set};
 ghost use Rattle.forms.specs.Time.{timeLength};
 ghost use Rattle.answers.specs.Reply.{spaceNeeded};
 ghost use Rattle.records.specs.Book.{bookSize};
-ghost use Rattle.session.specs.State.{sessionCount, bound};
+ghost use Rattle.session.specs.State.{sessionCount, accountCount, ended, issued, receiptsOf, granted};
 ghost use Rattle.session.specs.declared.Entry.the-variants.{Open};
-ghost use Rattle.isolation.specs.Platform.{tableSize, Step, onAccount, onEntry};
+ghost use Rattle.isolation.specs.Platform.{tableSize, Step, become, onAccount, onEntry};
 ghost use Rattle.octets.specs.Choice.{if_then_else_};
+ghost use Rattle.answers.specs.Answer.{Call};
 ghost use Rattle.bound.specs.Bound.{isTransmitter};
 ghost use Rattle.centre.specs.Centre.{octetsEarly, Fit, centre, step, world, takes};
 
@@ -54,13 +56,27 @@ fn check(book: usize, table: usize, stamp: &[u8], space: usize) -> u8
     number::DONE
 }
 
+// A session that stays open is left as it was.
+fn follow(state: State, session: usize, entry: Entry) -> State
+    requires { ⌜ session < sessionCount ⌝ }
+    ensures { λ r. ⌜ ((table : List ℕ) → world r table ≡ become (world state table) session entry) ⌝ }
+{
+    match entry {
+        Entry::Closed => state.bind(session, entry),
+        Entry::Open => state,
+        Entry::Transmitter(_) => state.bind(session, entry),
+        Entry::Receiver(_) => state.bind(session, entry),
+        Entry::Ended => state.bind(session, entry),
+    }
+}
+
 fn take_open(book: &[u8], state: State, session: usize, octets: &[u8], space: &mut [u8]) -> Taken
     requires { ⌜ (length (now book) ≡ bookSize) × ((session < sessionCount) × (spaceNeeded ≤ length (now space))) ⌝ }
-    ensures { λ r. ⌜ ((stamp table : List ℕ) → takes r table (now (space .exit)) ≡ onEntry centre (now (book .entry)) (world state table) session (record { octets = now (octets .entry); stamp = stamp; space = now (space .entry) }) Open) ⌝ }
+    ensures { λ r. ⌜ ((stamp table : List ℕ) → takes r table (now (space .exit)) ≡ onEntry centre (now (book .entry)) (world state table) session (Call.taking (record { octets = now (octets .entry); stamp = stamp; space = now (space .entry) })) Open) ⌝ }
 {
     let fronted = open::on_open(book, octets, space);
     let entry = fronted.entry;
-    let next = state.bind(session, entry);
+    let next = follow(state, session, entry);
     Taken {
         number: fronted.number,
         consumed: fronted.consumed,
@@ -69,15 +85,23 @@ fn take_open(book: &[u8], state: State, session: usize, octets: &[u8], space: &m
     }
 }
 
-// A session that ends, or goes on as it was.
-fn settle(state: State, session: usize, entry: Entry, ends: bool) -> State
-    requires { ⌜ session < sessionCount ⌝ }
-    ensures { λ r. ⌜ r ≡ bound state session (if ends then Entry.Ended else entry) ⌝ }
+// A session that ends, or goes on with this receipt; the account's last id.
+fn settle(
+    state: State,
+    session: usize,
+    account: usize,
+    ends: bool,
+    receipt: Receipt,
+    last: u32,
+) -> State
+    requires { ⌜ (session < sessionCount) × (account < accountCount) ⌝ }
+    ensures { λ r. ⌜ r ≡ issued (granted (if ends then ended state session else state) account (set (receiptsOf state account) session receipt)) account last ⌝ }
 {
     if ends {
-        state.unbind(session)
+        let over = state.unbind(session);
+        over.issue(account, last)
     } else {
-        state.bind(session, entry)
+        state.grant(session, account, receipt, last)
     }
 }
 
@@ -95,16 +119,17 @@ fn take_bound(
 ) -> Taken
     requires { ⌜ ((length (now book) ≡ bookSize) × (length (now table) ≡ tableSize)) × ((session < sessionCount) × (isTransmitter entry ≡ transmitter)) ⌝ }
     requires { ⌜ (length (now stamp) ≡ timeLength) × (spaceNeeded ≤ length (now space)) ⌝ }
-    ensures { λ r. ⌜ takes r (now (table .exit)) (now (space .exit)) ≡ onAccount centre (now (book .entry)) (world state (now (table .entry))) session (record { octets = now (octets .entry); stamp = now (stamp .entry); space = now (space .entry) }) entry a ⌝ }
+    ensures { λ r. ⌜ takes r (now (table .exit)) (now (space .exit)) ≡ onAccount centre (now (book .entry)) (world state (now (table .entry))) session (Call.taking (record { octets = now (octets .entry); stamp = now (stamp .entry); space = now (space .entry) })) entry a ⌝ }
 {
     let account = a as usize;
     if layout::ACCOUNTS <= account {
         return refuse(number::ACCOUNT_ILL_FORMED, state);
     }
     let record = records::book::record_of(book, account);
-    let last = state.last(account);
+    let last = state.lasts[account];
+    let receipt = session::receipt_for(account, state.sessions[session]);
     let at = layout::PART_SIZE * account;
-    let acted = bound::on_bound(
+    let handled = bound::on_bound(
         transmitter,
         record,
         octets,
@@ -112,9 +137,11 @@ fn take_bound(
         space,
         &mut table[at..at + layout::PART_SIZE],
         last,
+        receipt,
     );
-    let kept = settle(state, session, entry, acted.ends);
-    let next = kept.issue(account, acted.last);
+    let acted = handled.acted;
+    let kept = handled.receipt;
+    let next = settle(state, session, account, acted.ends, kept, acted.last);
     Taken {
         number: acted.number,
         consumed: acted.consumed,
@@ -133,7 +160,7 @@ pub fn take(
     stamp: &[u8],
     space: &mut [u8],
 ) -> Taken
-    ensures { λ r. ⌜ takes r (now (table .exit)) (now (space .exit)) ≡ step (now (book .entry)) (world state (now (table .entry))) (Step.on session (record { octets = now (octets .entry); stamp = now (stamp .entry); space = now (space .entry) })) ⌝ }
+    ensures { λ r. ⌜ takes r (now (table .exit)) (now (space .exit)) ≡ step (now (book .entry)) (world state (now (table .entry))) (Step.on session (Call.taking (record { octets = now (octets .entry); stamp = now (stamp .entry); space = now (space .entry) }))) ⌝ }
 {
     if session::SESSIONS <= session {
         return refuse(number::NO_SESSION, state);
@@ -142,7 +169,8 @@ pub fn take(
     if early != 0 {
         return refuse(early, state);
     }
-    let entry = state.entry(session);
+    let x = state.sessions[session];
+    let entry = x.entry;
     match entry {
         Entry::Closed => refuse(number::UNFIT_SESSION, state),
         Entry::Open => take_open(book, state, session, octets, space),

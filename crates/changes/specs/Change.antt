@@ -1,4 +1,4 @@
--- What is written into records (document 01, "Effects").
+-- What is written into records (document 01, "Effects"; document 02, 1).
 use Prim.Native.Nat.{ℕ}
 use mathlib.Core.List.{List, [], _∷_, _++_}
 use lib.ListN.{length}
@@ -6,6 +6,7 @@ use Rattle.octets.specs.Choice.{if_then_else_}
 use Rattle.octets.specs.Stretch.{patch, padded, zeros}
 use Rattle.octets.specs.Number.{octets4}
 use Rattle.forms.specs.Text.{longestText}
+use Rattle.records.specs.Layout.{stateAt, scheduleAt, validityAt, registeredAt, defaultAt, dateAt, markAt, registeredOf}
 use Rattle.changes.specs.declared.Fields.{Fields}
 use Rattle.changes.specs.declared.Correction.{Correction}
 
@@ -26,13 +27,17 @@ newRecord id f service text =
     ++ (terms (f .esm ∷ f .protocol ∷ f .priority ∷ []) (f .schedule) (f .validity)
     ++ padded 167 (message (f .registered ∷ f .coding ∷ f .default ∷ []) text))
 
--- a final state, its date and its error code
+-- a final state, its date, its error code, and the mark: 1 where the record is registered, and so its flag
 unfoldable pub finished : ℕ → ℕ → List ℕ → List ℕ → List ℕ
-finished state error stamp r = patch (patch r 0 (state ∷ [])) 233 (stamp ++ (error ∷ []))
+finished state error stamp r = patch (patch r stateAt (state ∷ [])) dateAt (stamp ++ (error ∷ registeredOf r ∷ []))
+
+-- its receipt is acknowledged, and no longer owed
+unfoldable pub unmarked : List ℕ → List ℕ
+unmarked r = patch r markAt (0 ∷ [])
 
 -- a new text, length and default id
 unfoldable pub retexted : ℕ → List ℕ → List ℕ → List ℕ
-retexted default text r = patch r 91 (default ∷ length text ∷ padded longestText text)
+retexted default text r = patch r defaultAt (default ∷ length text ∷ padded longestText text)
 
 -- a time that is given takes the place of the stored one
 abbrev pub retimed : ℕ → List ℕ → List ℕ → List ℕ
@@ -41,4 +46,4 @@ retimed at time r = if zeros time then r else patch r at time
 -- non-empty times replace the stored ones; flag, default id, length and text always do
 unfoldable pub corrected : Correction → List ℕ → List ℕ → List ℕ
 corrected c text r =
-    retexted (c .default) text (patch (retimed 73 (c .validity) (retimed 57 (c .schedule) r)) 89 (c .registered ∷ []))
+    retexted (c .default) text (patch (retimed validityAt (c .validity) (retimed scheduleAt (c .schedule) r)) registeredAt (c .registered ∷ []))

@@ -1,4 +1,4 @@
-// What is written into records: a new one, a final state, a new text, a correction.
+// What is written into records: a new one, a final state with its mark, a mark taken away, a new text, a correction.
 use forms::field;
 use forms::time;
 use records::layout;
@@ -11,7 +11,7 @@ ghost use Rattle.forms.specs.Text.{longestText};
 ghost use Rattle.forms.specs.Time.{timeLength};
 ghost use Rattle.records.specs.Layout.{recordSize, places, partSize};
 ghost use Rattle.store.specs.Places.{onPlace};
-ghost use Rattle.changes.specs.Change.{head, terms, message, newRecord, finished, retexted, retimed, corrected};
+ghost use Rattle.changes.specs.Change.{head, terms, message, newRecord, finished, unmarked, retexted, retimed, corrected};
 
 // A submission's fields; its service_type and text stand beside it.
 pub struct Fields {
@@ -99,9 +99,11 @@ fn finish_record(r: &mut [u8], state: u8, error: u8, stamp: &[u8])
     requires { ⌜ (length (now r) ≡ recordSize) × (length (now stamp) ≡ timeLength) ⌝ }
     ensures { λ _. ⌜ now (r .exit) ≡ finished state error (now (stamp .entry)) (now (r .entry)) ⌝ }
 {
+    let registered = r[layout::REGISTERED];
     put_octet(r, layout::STATE, state);
     octets::stretch::put(r, layout::FINAL_DATE, stamp);
     put_octet(r, layout::ERROR_CODE, error);
+    put_octet(r, layout::MARK, registered);
 }
 
 // Gives the record at place k a final state.
@@ -111,6 +113,15 @@ pub fn finish(part: &mut [u8], k: usize, state: u8, error: u8, stamp: &[u8])
 {
     let at = layout::RECORD_SIZE * k;
     finish_record(&mut part[at..at + layout::RECORD_SIZE], state, error, stamp)
+}
+
+// Takes the mark from the record at place k.
+pub fn unmark(part: &mut [u8], k: usize)
+    requires { ⌜ (length (now part) ≡ partSize) × (k < places) ⌝ }
+    ensures { λ _. ⌜ now (part .exit) ≡ onPlace unmarked k (now (part .entry)) ⌝ }
+{
+    let at = layout::RECORD_SIZE * k;
+    put_octet(&mut part[at..at + layout::RECORD_SIZE], layout::MARK, 0)
 }
 
 // No old octets stay behind a shorter text.

@@ -3,10 +3,11 @@ use mathlib.Core.Path.{_≡_, ap, ap₂}
 use mathlib.Core.List.{List}
 use Prim.Native.Nat.{ℕ}
 use Rattle.answers.specs.Answer.{Answer}
-use Rattle.inverook.specs.Calls.{Given, moved, taken}
+use Rattle.inverook.specs.Calls.{Given, moved, taken, delivered}
 use Rattle.inverook.specs.declared.flat.InverookState.{InverookState}
 use Rattle.inverook.specs.declared.InverookMoved.{InverookMoved}
 use Rattle.inverook.specs.declared.InverookTaken.{InverookTaken}
+use Rattle.inverook.specs.declared.InverookDelivered.{InverookDelivered}
 
 abbrev answerOf : Given → Answer
 answerOf g = g .answer
@@ -31,3 +32,15 @@ one-taken r r′ t t′ space space′ e =
   where
     taking : ℕ → ℕ → ℕ → InverookState → InverookTaken
     taking n c w st = record { number = n; consumed = c; written = w; state = st }
+
+pub one-delivered : (r r′ : InverookDelivered) (t t′ space space′ : List ℕ) → delivered r t space ≡ delivered r′ t′ space′ → (r ≡ r′) × (t ≡ t′) × (space ≡ space′)
+one-delivered r r′ t t′ space space′ e =
+    let answers = ap answerOf e in
+    let number : r .number ≡ r′ .number = cc in
+    let written : r .written ≡ r′ .written = cc in
+    let state : r .state ≡ r′ .state = ap (λ (g : Given). g .state) e in
+    let same : delivering (r .number) (r .written) (r .state) ≡ delivering (r′ .number) (r′ .written) (r′ .state) = rw (number, written, state) in
+    (same, ap (λ (g : Given). g .table) e, cc)
+  where
+    delivering : ℕ → ℕ → InverookState → InverookDelivered
+    delivering n w st = record { number = n; written = w; state = st }

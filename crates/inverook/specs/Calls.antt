@@ -14,6 +14,7 @@ use Rattle.inverook.specs.Flat.{flatOf}
 use Rattle.inverook.specs.declared.flat.InverookState.{InverookState}
 use Rattle.inverook.specs.declared.InverookMoved.{InverookMoved}
 use Rattle.inverook.specs.declared.InverookTaken.{InverookTaken}
+use Rattle.inverook.specs.declared.InverookDelivered.{InverookDelivered}
 
 -- what a step gives, its state as numbers
 pub record Given : Type 0 where
@@ -31,12 +32,16 @@ moved r table = record { answer = numbered (r .number); state = r .state; table 
 abbrev pub taken : InverookTaken → List ℕ → List ℕ → Given
 taken r table space = record { answer = A.taken (r .number) (r .consumed) (r .written) space; state = r .state; table = table }
 
+abbrev pub delivered : InverookDelivered → List ℕ → List ℕ → Given
+delivered r table space = record { answer = A.delivered (r .number) (r .written) space; state = r .state; table = table }
+
 -- ---- a pick
 
 -- where the picked record starts; 32,768, one past the table's last octet, where none is picked
 abbrev pub pickedAt : ℕ → Answer → ℕ
 pickedAt account (A.numbered n) = tableSize
 pickedAt account (A.taken n consumed written space) = tableSize
+pickedAt account (A.delivered n written space) = tableSize
 pickedAt account (A.picked k r) = startOf account k
 
 -- the picked record copied to the front of a lent space, where it fits there, and how many octets were copied

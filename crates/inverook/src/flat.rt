@@ -2,13 +2,14 @@
 // invariant.
 use records::layout;
 use session::Entry;
+use session::Receipt;
 use session::Session;
 use session::State;
 ghost use mathlib.Core.Path.{_≡_};
 ghost use mathlib.Core.List.{map};
 ghost use Prim.Native.Nat.{_<_};
 ghost use Rattle.session.specs.State.{sessionCount};
-ghost use Rattle.inverook.specs.Flat.{entryOf, sessionAt, stateOf, entryKind, entryAccount, kindAt, accountAt, flatOf, sessions};
+ghost use Rattle.inverook.specs.Flat.{entryOf, receiptOf, sessionAt, stateOf, entryKind, entryAccount, kindAt, accountAt, receiptAt, idAt, sequenceAt, flatOf, sessions};
 
 // inverook_state of include/inverook.h.
 #[repr(C)]
@@ -16,6 +17,8 @@ pub struct InverookState {
     pub kinds: [u8; session::SESSIONS],
     pub accounts: [u8; session::SESSIONS],
     pub lasts: [u32; layout::ACCOUNTS],
+    pub receipts: [u32; session::SESSIONS],
+    pub sequences: [u32; session::SESSIONS],
 }
 
 fn entry_of(kind: u8, account: u8) -> Entry
@@ -30,12 +33,25 @@ fn entry_of(kind: u8, account: u8) -> Entry
     }
 }
 
+// Only a receiver's receipt is looked at, and none has id 0.
+fn receipt_of(kind: u8, id: u32, sequence: u32) -> Receipt
+    ensures { λ r. ⌜ r ≡ receiptOf kind id sequence ⌝ }
+{
+    if (kind == 3) & !(id == 0) {
+        Receipt::Outstanding(id, sequence)
+    } else {
+        Receipt::None
+    }
+}
+
 fn session_at(flat: InverookState, i: usize) -> Session
     requires { ⌜ i < sessionCount ⌝ }
     ensures { λ r. ⌜ r ≡ sessionAt flat i ⌝ }
 {
-    let entry = entry_of(flat.kinds[i], flat.accounts[i]);
-    Session { entry }
+    let kind = flat.kinds[i];
+    let entry = entry_of(kind, flat.accounts[i]);
+    let receipt = receipt_of(kind, flat.receipts[i], flat.sequences[i]);
+    Session { entry, receipt }
 }
 
 pub fn state_of(flat: InverookState) -> State
@@ -91,14 +107,18 @@ fn kind_at(state: State, i: usize) -> u8
     requires { ⌜ i < sessionCount ⌝ }
     ensures { λ r. ⌜ r ≡ kindAt state i ⌝ }
 {
-    kind_of(state.entry(i))
+    let x = state.sessions[i];
+    let entry = x.entry;
+    kind_of(entry)
 }
 
 fn account_at(state: State, i: usize) -> u8
     requires { ⌜ i < sessionCount ⌝ }
     ensures { λ r. ⌜ r ≡ accountAt state i ⌝ }
 {
-    account_of(state.entry(i))
+    let x = state.sessions[i];
+    let entry = x.entry;
+    account_of(entry)
 }
 
 fn kinds_of(state: State) -> [u8; session::SESSIONS]
@@ -147,15 +167,97 @@ fn accounts_of(state: State) -> [u8; session::SESSIONS]
     ]
 }
 
+// What is outstanding on a receiver.
+fn receipt_at(state: State, i: usize) -> Receipt
+    requires { ⌜ i < sessionCount ⌝ }
+    ensures { λ r. ⌜ r ≡ receiptAt state i ⌝ }
+{
+    let x = state.sessions[i];
+    let entry = x.entry;
+    match entry {
+        Entry::Closed => Receipt::None,
+        Entry::Open => Receipt::None,
+        Entry::Transmitter(_) => Receipt::None,
+        Entry::Receiver(_) => x.receipt,
+        Entry::Ended => Receipt::None,
+    }
+}
+
+fn id_at(state: State, i: usize) -> u32
+    requires { ⌜ i < sessionCount ⌝ }
+    ensures { λ r. ⌜ r ≡ idAt state i ⌝ }
+{
+    let receipt = receipt_at(state, i);
+    receipt.id()
+}
+
+fn sequence_at(state: State, i: usize) -> u32
+    requires { ⌜ i < sessionCount ⌝ }
+    ensures { λ r. ⌜ r ≡ sequenceAt state i ⌝ }
+{
+    let receipt = receipt_at(state, i);
+    receipt.sequence()
+}
+
+fn ids_of(state: State) -> [u32; session::SESSIONS]
+    ensures { λ r. ⌜ r ≡ map (idAt state) sessions ⌝ }
+{
+    [
+        id_at(state, 0),
+        id_at(state, 1),
+        id_at(state, 2),
+        id_at(state, 3),
+        id_at(state, 4),
+        id_at(state, 5),
+        id_at(state, 6),
+        id_at(state, 7),
+        id_at(state, 8),
+        id_at(state, 9),
+        id_at(state, 10),
+        id_at(state, 11),
+        id_at(state, 12),
+        id_at(state, 13),
+        id_at(state, 14),
+        id_at(state, 15),
+    ]
+}
+
+fn sequences_of(state: State) -> [u32; session::SESSIONS]
+    ensures { λ r. ⌜ r ≡ map (sequenceAt state) sessions ⌝ }
+{
+    [
+        sequence_at(state, 0),
+        sequence_at(state, 1),
+        sequence_at(state, 2),
+        sequence_at(state, 3),
+        sequence_at(state, 4),
+        sequence_at(state, 5),
+        sequence_at(state, 6),
+        sequence_at(state, 7),
+        sequence_at(state, 8),
+        sequence_at(state, 9),
+        sequence_at(state, 10),
+        sequence_at(state, 11),
+        sequence_at(state, 12),
+        sequence_at(state, 13),
+        sequence_at(state, 14),
+        sequence_at(state, 15),
+    ]
+}
+
 pub fn flat_of(state: State) -> InverookState
     ensures { λ r. ⌜ r ≡ flatOf state ⌝ }
 {
     let kinds = kinds_of(state);
     let accounts = accounts_of(state);
     let lasts = state.lasts;
+    let receipts = ids_of(state);
+    let sequences = sequences_of(state);
     InverookState {
         kinds,
         accounts,
         lasts,
+        receipts,
+        sequences,
     }
 }

@@ -11,9 +11,9 @@ ghost use mathlib.Core.List.{List};
 ghost use Rattle.isolation.specs.Platform.{Step};
 ghost use Rattle.centre.specs.Centre.{step, world, reports};
 ghost use Rattle.answers.specs.Reply.{wrote};
-ghost use Rattle.answers.specs.Answer.{Question, numberOf, pickedRecord};
+ghost use Rattle.answers.specs.Answer.{Call, Question, numberOf, pickedRecord};
 ghost use Rattle.inverook.specs.Flat.{stateOf};
-ghost use Rattle.inverook.specs.Calls.{moved, taken, flatly, pickedAt, copiedTo};
+ghost use Rattle.inverook.specs.Calls.{moved, taken, delivered, flatly, pickedAt, copiedTo};
 
 // inverook_moved of the header.
 #[repr(C)]
@@ -27,6 +27,14 @@ pub struct InverookMoved {
 pub struct InverookTaken {
     pub number: u8,
     pub consumed: usize,
+    pub written: usize,
+    pub state: InverookState,
+}
+
+// inverook_delivered of the header.
+#[repr(C)]
+pub struct InverookDelivered {
+    pub number: u8,
     pub written: usize,
     pub state: InverookState,
 }
@@ -69,7 +77,7 @@ pub extern "C" fn inverook_take(
     stamp: &[u8],
     space: &mut [u8],
 ) -> InverookTaken
-    ensures { λ r. ⌜ taken r (now (table .exit)) (now (space .exit)) ≡ flatly (step (now (book .entry)) (world (stateOf state) (now (table .entry))) (Step.on session (record { octets = now (octets .entry); stamp = now (stamp .entry); space = now (space .entry) }))) ⌝ }
+    ensures { λ r. ⌜ taken r (now (table .exit)) (now (space .exit)) ≡ flatly (step (now (book .entry)) (world (stateOf state) (now (table .entry))) (Step.on session (Call.taking (record { octets = now (octets .entry); stamp = now (stamp .entry); space = now (space .entry) })))) ⌝ }
 {
     let held = flat::state_of(state);
     let took = centre::take::take(book, table, held, session, octets, stamp, space);
@@ -79,6 +87,28 @@ pub extern "C" fn inverook_take(
         number: took.number,
         consumed: took.consumed,
         written: took.written,
+        state: given,
+    }
+}
+
+#[no_mangle]
+pub extern "C" fn inverook_deliver(
+    book: &[u8],
+    table: &[u8],
+    state: InverookState,
+    session: usize,
+    sequence: u32,
+    space: &mut [u8],
+) -> InverookDelivered
+    ensures { λ r. ⌜ delivered r (now (table .entry)) (now (space .exit)) ≡ flatly (step (now (book .entry)) (world (stateOf state) (now (table .entry))) (Step.on session (Call.delivering (record { sequence = sequence; space = now (space .entry) })))) ⌝ }
+{
+    let held = flat::state_of(state);
+    let gave = centre::deliver::deliver(book, table, held, session, sequence, space);
+    let next = gave.state;
+    let given = flat::flat_of(next);
+    InverookDelivered {
+        number: gave.number,
+        written: gave.written,
         state: given,
     }
 }

@@ -12,7 +12,7 @@ use Rattle.session.specs.State.{sessionCount, accountCount, entryAt, opened, op
 use Rattle.session.specs.declared.Entry.{Entry}
 use Rattle.session.specs.declared.Entry.the-variants.{Closed, Open, Transmitter, Receiver, Ended}
 use Rattle.session.specs.declared.Moved.{Moved}
-use Rattle.isolation.specs.Platform.{tableSize, World, putOwn, putEntry, Step, opens, closes, on, of, Request, onSession, ofAccount, Ran, Machine, ask, move, onAccount, onEntry, onAfter, ofAfter, step}
+use Rattle.isolation.specs.Platform.{tableSize, World, putOwn, putEntry, become, Step, opens, closes, on, of, Request, onSession, ofAccount, Ran, Machine, ask, move, onAccount, onEntry, onAfter, ofAfter, step}
 use Rattle.isolation.specs.History.{boundTo, boundIn, names, concerns}
 use Rattle.isolation.specs.Isolation.{Keeps}
 use Rattle.isolation.proofs.Sizes.{Sized, asked-length}
@@ -57,23 +57,23 @@ module _ (m : Machine) (b : m .Book) (A : ℕ) (w : World) where
     foreign-opened s (Receiver a) h = refl
     foreign-opened s Ended h = refl
 
-    -- on a session of another account, whether it ends or keeps its entry e
-    foreign-onAccount : (s : ℕ) (x : X) (e : Entry) (a : ℕ) → boundTo A (entryAt (w .state) s) ≡ false → boundTo A e ≡ false → eqb a A ≡ false
+    -- on a session of another account, whether it ends or goes on
+    foreign-onAccount : (s : ℕ) (x : X) (e : Entry) (a : ℕ) → boundTo A (entryAt (w .state) s) ≡ false → eqb a A ≡ false
         → Leaves (onAccount m b w s x e a)
-    foreign-onAccount s x e a h k ne =
-        let ends = ask m b w a (onSession e x) .ends in
-        let after = if ends then Ended else e in
-        let hidden : boundTo A after ≡ false = if-cases (λ (d : Entry). boundTo A d ≡ false) ends Ended e (λ t. refl) (λ t. k) in
+    foreign-onAccount s x e a h ne =
+        let q = onSession s e x in
+        let ends = ask m b w a q .ends in
         if-cases Leaves (ltb a accountCount) _ _
-        (λ t. foreign-put a (onSession e x) ne t (putEntry w s after) ∙ view-hidden A w s after h hidden)
+        (λ t. foreign-put a q ne t (if ends then putEntry w s Ended else w)
+        ∙ if-cases (λ (u : World). view A u ≡ view A w) ends (putEntry w s Ended) w (λ k. view-hidden A w s Ended h refl) (λ k. refl))
         (λ t. refl)
 
     module _ (s : ℕ) (l : s < sessionCount) (x : X) (h : boundTo A (entryAt (w .state) s) ≡ false) where
       foreign-onEntry : earlyOn b tableSize x ≡ 0 → (e : Entry) → boundTo A e ≡ false → Foreign (onEntry m b w s x e) (on s x)
       foreign-onEntry n Closed k = leaves refl
       foreign-onEntry n Open k = fronts l n refl
-      foreign-onEntry n (Transmitter a) k = leaves (foreign-onAccount s x (Transmitter a) a h k k)
-      foreign-onEntry n (Receiver a) k = leaves (foreign-onAccount s x (Receiver a) a h k k)
+      foreign-onEntry n (Transmitter a) k = leaves (foreign-onAccount s x (Transmitter a) a h k)
+      foreign-onEntry n (Receiver a) k = leaves (foreign-onAccount s x (Receiver a) a h k)
       foreign-onEntry n Ended k = leaves refl
 
       foreign-onAfter : Foreign (onAfter m (earlyOn b (length (w .table)) x) b w s x) (on s x)
@@ -95,13 +95,19 @@ module _ (m : Machine) (b : m .Book) (A : ℕ) (w : World) where
         (λ t. foreign-onAfter s (leb-false sessionCount s t) x h)
     foreign (of a q) h = leaves (foreign-ofAfter (earlyOf b (length (w .table)) q) a q (or-left (eqb a A) false h))
 
-    -- what is asked on an open session and did not bind it to A put an entry that A is not shown
+    -- what is asked on an open session and did not bind it to A put no entry that A is shown
+    unbound-become : (s : ℕ) → s < sessionCount → (e : Entry) → boundTo A (entryAt (w .state) s) ≡ false
+        → boundTo A (entryAt (become w s e .state) s) ≡ false → view A (become w s e) ≡ view A w
+    unbound-become s l Closed h k = view-hidden A w s Closed h refl
+    unbound-become s l Open h k = refl
+    unbound-become s l (Transmitter a) h k = view-hidden A w s (Transmitter a) h (rw (entry-put w z s l (Transmitter a)) at k)
+    unbound-become s l (Receiver a) h k = view-hidden A w s (Receiver a) h (rw (entry-put w z s l (Receiver a)) at k)
+    unbound-become s l Ended h k = view-hidden A w s Ended h refl
+
     unbound : {st : Step X Q} (r : Ran R) → Foreign r st → boundIn m A w st ≡ false → boundIn m A (r .world) st ≡ false → Leaves r
     unbound r (leaves e) h k = e
     unbound r (fronts {s = s} {x = x} l n e) h k =
-        let entry = front b x .after in
-        ap (λ (q : Ran R). view A (q .world)) e
-        ∙ view-hidden A w s entry h (sym (ap (boundTo A) (entry-put w z s l entry)) ∙ (rw e at k))
+        ap (λ (q : Ran R). view A (q .world)) e ∙ unbound-become s l (front b x .after) h (rw e at k)
 
     pub frame : (st : Step X Q) → concerns m A b w st ≡ false → view A (step m b w st .world) ≡ view A w
     unfolding concerns

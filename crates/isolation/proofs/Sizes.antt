@@ -7,11 +7,12 @@ use lib.ListN.{length, length-take, length-drop, length-set, length-replicate}
 use lib.Dec.{ltb, leb, eqb}
 use Rattle.octets.proofs.StretchLaws.{if-cases}
 use Rattle.octets.proofs.PatchLaws.{patch-length}
-use Rattle.session.specs.State.{sessionCount, accountCount, entryAt, opened, openedFrom, closed}
+use Rattle.session.specs.State.{sessionCount, accountCount, sessionWith, entryAt, opened, openedFrom, closed}
 use Rattle.session.specs.declared.Entry.{Entry}
 use Rattle.session.specs.declared.Entry.the-variants.{Closed, Open, Transmitter, Receiver, Ended}
 use Rattle.session.specs.declared.Moved.{Moved}
-use Rattle.isolation.specs.Platform.{partSize, tableSize, World, fresh, Own, putOwn, putEntry, Step, opens, closes, on, of, Request, Ran, Machine, ask, move, onAccount, onEntry, onAfter, ofAfter, step}
+use Rattle.session.proofs.ReceiptLaws.{granting-length}
+use Rattle.isolation.specs.Platform.{partSize, tableSize, World, fresh, Own, putOwn, putEntry, become, Step, opens, closes, on, of, Request, onSession, Ran, Machine, ask, move, onAccount, onEntry, onAfter, ofAfter, step}
 use Rattle.isolation.specs.History.{Kept, reopened, anew, aloneStep}
 use Rattle.isolation.specs.Isolation.{Keeps}
 
@@ -26,18 +27,25 @@ sized-fresh = record { sessions = refl; lasts = refl; table = length-replicate {
 
 pub sized-entry : (w : World) → Sized w → (s : ℕ) (e : Entry) → Sized (putEntry w s e)
 sized-entry w z s e =
-    record { sessions = length-set (w .state .sessions) s (record { entry = e }) ∙ z .sessions; lasts = z .lasts; table = z .table }
+    record { sessions = length-set (w .state .sessions) s (sessionWith e) ∙ z .sessions; lasts = z .lasts; table = z .table }
+
+pub sized-become : (w : World) → Sized w → (s : ℕ) (e : Entry) → Sized (become w s e)
+sized-become w z s Closed = sized-entry w z s Closed
+sized-become w z s Open = z
+sized-become w z s (Transmitter a) = sized-entry w z s (Transmitter a)
+sized-become w z s (Receiver a) = sized-entry w z s (Receiver a)
+sized-become w z s Ended = sized-entry w z s Ended
 
 sized-put : (w : World) → Sized w → (a : ℕ) (o : Own) → Sized (putOwn w a o)
 sized-put w z a o =
     record {
-      sessions = z .sessions;
+      sessions = granting-length a (w .state .sessions) (o .receipts) ∙ z .sessions;
       lasts = length-set (w .state .lasts) a (o .last) ∙ z .lasts;
       table = patch-length (w .table) (partSize * a) (o .part) ∙ z .table;
     }
 
 module _ (m : Machine) where
-  open Machine m using (Book, X, Q, R, earlyOn, earlyOf)
+  open Machine m using (Book, X, Q, R, earlyOn, earlyOf, front)
 
   abbrev SizedAfter : Ran R → Type 0
   SizedAfter r = Sized (r .world)
@@ -56,11 +64,14 @@ module _ (m : Machine) where
 
     sized-onAccount : (s : ℕ) (x : X) (e : Entry) (a : ℕ) → SizedAfter (onAccount m b w s x e a)
     sized-onAccount s x e a =
-        if-cases SizedAfter (ltb a accountCount) _ _ (λ h. sized-put (putEntry w s _) (sized-entry w z s _) a _) (λ h. z)
+        let r = ask m b w a (onSession s e x) in
+        if-cases SizedAfter (ltb a accountCount) _ _
+        (λ h. sized-put _ (if-cases Sized (r .ends) (putEntry w s Ended) w (λ t. sized-entry w z s Ended) (λ t. z)) a (r .own))
+        (λ h. z)
 
     sized-onEntry : (s : ℕ) (x : X) (e : Entry) → SizedAfter (onEntry m b w s x e)
     sized-onEntry s x Closed = z
-    sized-onEntry s x Open = sized-entry w z s _
+    sized-onEntry s x Open = sized-become w z s (front b x .after)
     sized-onEntry s x (Transmitter a) = sized-onAccount s x (Transmitter a) a
     sized-onEntry s x (Receiver a) = sized-onAccount s x (Receiver a) a
     sized-onEntry s x Ended = z

@@ -64,7 +64,12 @@ module _ (m : Machine) (keeps : Keeps m) (b : m .Book) (A : ℕ) where
   -- what A sees is what Same compares
   same : {ls rs : List R} (u v : World) → ls ≡ rs → view A u ≡ view A v → Same A ls u rs v
   same u v answers world =
-      record { answers = answers; records = ap (λ (vw : View). vw .own .part) world; last = ap (λ (vw : View). vw .own .last) world }
+      record {
+        answers = answers;
+        records = ap (λ (vw : View). vw .own .part) world;
+        last = ap (λ (vw : View). vw .own .last) world;
+        receipts = ap (λ (vw : View). vw .own .receipts) world;
+      }
 
 -- a history shows A what its remaining steps show it, run alone
 pub alone : (m : Machine) → Keeps m → Alone m

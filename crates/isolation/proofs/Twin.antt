@@ -3,7 +3,7 @@
 use mathlib.Core.Path.{_≡_, refl, sym, ap, _∙_, subst}
 use mathlib.Core.Bool.{Bool, true, false, not, _&&_, _||_, true≢false}
 use Prim.Native.Nat.{ℕ, _<_}
-use lib.ListN.{length, set}
+use lib.ListN.{length}
 use lib.Dec.{ltb, leb, eqb}
 use borrow.Author.Tests.{ltb-true, eqb-true, eq-eqb, lt-leb, not-true, not-false}
 use Rattle.octets.specs.Choice.{if_then_else_}
@@ -12,11 +12,11 @@ use Rattle.session.specs.State.{sessionCount, accountCount, entryAt, opened, op
 use Rattle.session.specs.declared.Entry.{Entry}
 use Rattle.session.specs.declared.Entry.the-variants.{Closed, Open, Transmitter, Receiver, Ended}
 use Rattle.session.specs.declared.Moved.{Moved}
-use Rattle.isolation.specs.Platform.{partSize, tableSize, World, putEntry, Step, opens, closes, on, of, Request, onSession, ofAccount, Effect, Ran, Machine, unchanged, ask, put, move, settle, onAccount, onEntry, onAfter, ofAfter, step}
+use Rattle.isolation.specs.Platform.{partSize, tableSize, World, Own, putEntry, become, Step, opens, closes, on, of, Request, onSession, ofAccount, Effect, Ran, Machine, unchanged, ask, put, move, settle, onAccount, onEntry, onAfter, ofAfter, step}
 use Rattle.isolation.specs.History.{boundTo, boundIn, names, concerns, binds, reopened, anew, aloneStep}
 use Rattle.isolation.specs.Isolation.{Keeps}
 use Rattle.isolation.proofs.Sizes.{Sized, sized-entry, asked-length, sized-reopened}
-use Rattle.isolation.proofs.Views.{View, view, shown, withSessions, withOwn, bound-same, boundIn-same, entry-same, entry-put, view-entry, view-hidden, view-own}
+use Rattle.isolation.proofs.Views.{View, view, withEntry, withOwn, bound-same, boundIn-same, entry-same, entry-put, view-entry, view-hidden, view-own}
 use Rattle.isolation.proofs.Frame.{own, fronted, Foreign, leaves, fronts, foreign}
 
 -- one test that chooses in both runs
@@ -55,17 +55,21 @@ module _ (m : Machine) (keeps : Keeps m) (b : m .Book) (A : ℕ) where
     own-entry s e r =
         record {
           answer = refl;
-          world =
-              view-entry A w s e
-              ∙ ap (λ (vw : View). withSessions vw (set (vw .sessions) s (shown A e))) alike
-              ∙ sym (view-entry A v s e);
+          world = view-entry A w s e ∙ ap (λ (vw : View). withEntry A vw s e) alike ∙ sym (view-entry A v s e);
         }
 
-    own-put : Sized w → Sized v → (r : Effect R) → length (r .own .part) ≡ partSize → A < accountCount → Alike A (put m w A r) (put m v A r)
+    own-become : (s : ℕ) (e : Entry) (r : R) → Alike A (record { answer = r; world = become w s e }) (record { answer = r; world = become v s e })
+    own-become s Closed r = own-entry s Closed r
+    own-become s Open r = own-unchanged r
+    own-become s (Transmitter a) r = own-entry s (Transmitter a) r
+    own-become s (Receiver a) r = own-entry s (Receiver a) r
+    own-become s Ended r = own-entry s Ended r
+
+    own-put : Sized w → Sized v → (r : Effect Own R) → length (r .own .part) ≡ partSize → A < accountCount → Alike A (put m w A r) (put m v A r)
     own-put z y r lp la =
         record {
           answer = refl;
-          world = view-own A w z (r .own) lp la ∙ ap (λ (vw : View). withOwn vw (r .own)) alike ∙ sym (view-own A v y (r .own) lp la);
+          world = view-own A w z (r .own) lp la ∙ ap (λ (vw : View). withOwn A vw (r .own)) alike ∙ sym (view-own A v y (r .own) lp la);
         }
 
     -- A's function is given the same, and so gives the same
@@ -84,19 +88,21 @@ module _ (m : Machine) (keeps : Keeps m) (b : m .Book) (A : ℕ) where
     own-ask q t =
         let la = ltb-true A accountCount t in
         let r = ask m b w A q in
-        subst (λ (r′ : Effect R). Alike A (put m w A r) (put m v A r′)) (ask-same w v alike q)
+        subst (λ (r′ : Effect Own R). Alike A (put m w A r) (put m v A r′)) (ask-same w v alike q)
         (own-put w v alike z y r (asked-length m b w z keeps A q la) la)
 
     own-settle : (s : ℕ) (x : X) (e : Entry) → ltb A accountCount ≡ true
-        → Alike A (settle m w s e A (ask m b w A (onSession e x))) (settle m v s e A (ask m b v A (onSession e x)))
+        → Alike A (settle m w s A (ask m b w A (onSession s e x))) (settle m v s A (ask m b v A (onSession s e x)))
     own-settle s x e t =
         let la = ltb-true A accountCount t in
-        let r = ask m b w A (onSession e x) in
-        let d = if r .ends then Ended else e in
-        let entries = own-entry w v alike s d (r .answer) .world in
-        let lp = asked-length m b w z keeps A (onSession e x) la in
-        subst (λ (r′ : Effect R). Alike A (settle m w s e A r) (settle m v s e A r′)) (ask-same w v alike (onSession e x))
-        (own-put (putEntry w s d) (putEntry v s d) entries (sized-entry w z s d) (sized-entry v y s d) r lp la)
+        let q = onSession s e x in
+        let r = ask m b w A q in
+        let lp = asked-length m b w z keeps A q la in
+        let ended = own-entry w v alike s Ended (r .answer) .world in
+        subst (λ (r′ : Effect Own R). Alike A (settle m w s A r) (settle m v s A r′)) (ask-same w v alike q)
+        (if-both (λ (u u′ : World). Alike A (put m u A r) (put m u′ A r)) (r .ends) _ _ _ _
+        (λ k. own-put (putEntry w s Ended) (putEntry v s Ended) ended (sized-entry w z s Ended) (sized-entry v y s Ended) r lp la)
+        (λ k. own-put w v alike z y r lp la))
 
     own-onAccount : (s : ℕ) (x : X) (e : Entry) → Alike A (onAccount m b w s x e A) (onAccount m b v s x e A)
     own-onAccount s x e = if-both (Alike A) (ltb A accountCount) _ _ _ _ (own-settle s x e) (λ t. own-unchanged w v alike (refusedOn 9 x))
@@ -166,7 +172,7 @@ module _ (m : Machine) (keeps : Keeps m) (b : m .Book) (A : ℕ) where
   bind-step w v y alike (on s x) r (fronts l n e) h k =
       let u = reopened m b v s in
       rw (e, front-step u (sized-reopened m b v y s) s l (reopened-open v y s l) x n)
-      (own-entry w u (alike ∙ sym (reopened-view v y s l (sym (bound-same A w v alike s) ∙ h))) s (front b x .after) (front b x .answer))
+      (own-become w u (alike ∙ sym (reopened-view v y s l (sym (bound-same A w v alike s) ∙ h))) s (front b x .after) (front b x .answer))
 
   -- ---- the twin
 

@@ -3,15 +3,17 @@ use Prim.Native.Nat.{ℕ}
 use mathlib.Core.Path.{_≡_}
 use mathlib.Core.List.{List, map}
 use lib.ListN.{length}
-use Rattle.session.specs.State.{lastAt}
+use Rattle.session.specs.State.{lastAt, receiptsOf}
 use Rattle.isolation.specs.Platform.{partSize, partOf, World, fresh, Own, Step, Request, Machine}
 use Rattle.isolation.specs.History.{stepOf, after, answersOf, remaining, afterAlone, answersAlone}
 
--- two runs show account A the same: its answers in order (response octets among them), its stored records, its last id
+-- two runs show account A the same: its answers in order (response octets among them), its stored records, its last id, and the receipts that are
+-- outstanding on its sessions
 pub record Same {R : Type 0} (A : ℕ) (ls : List R) (w : World) (rs : List R) (v : World) : Type 0 where
   pub answers : ls ≡ rs
   pub records : partOf A (w .table) ≡ partOf A (v .table)
   pub last : lastAt (w .state) A ≡ lastAt (v .state) A
+  pub receipts : receiptsOf (w .state) A ≡ receiptsOf (v .state) A
 
 module _ (m : Machine) where
   open Machine m using (Book, X, Q, R, act)

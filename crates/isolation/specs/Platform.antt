@@ -1,6 +1,6 @@
 -- The platform, in general: sixteen sessions and eight accounts over one table, driven by steps. What a particular centre does is given by a
--- `Machine`; by the types of its parts, an account's function sees of table and last ids that account's own alone, and an open session's function
--- sees no table.
+-- `Machine`; by the types of its parts, an account's function sees of table, last ids and receipts that account's own alone, and an open session's
+-- function sees none of them.
 use Prim.Native.Nat.{ℕ, _*_}
 use mathlib.Core.Bool.{Bool}
 use mathlib.Core.List.{List}
@@ -9,10 +9,11 @@ use lib.ListN.{length, replicate}
 use Rattle.octets.specs.Choice.{if_then_else_}
 use Rattle.octets.specs.Stretch.{part, patch}
 pub use Rattle.records.specs.Layout.{partSize, tableSize}
-use Rattle.session.specs.State.{sessionCount, accountCount, entryAt, lastAt, bound, issued, opened, closed}
+use Rattle.session.specs.State.{sessionCount, accountCount, entryAt, lastAt, receiptsOf, bound, issued, granted, opened, closed}
 use Rattle.session.specs.State as S
 use Rattle.session.specs.declared.Entry.{Entry}
 use Rattle.session.specs.declared.Entry.the-variants.{Closed, Open, Transmitter, Receiver, Ended}
+use Rattle.session.specs.declared.Receipt.{Receipt}
 use Rattle.session.specs.declared.State.{State}
 use Rattle.session.specs.declared.Moved.{Moved}
 
@@ -31,24 +32,33 @@ pub record World : Type 0 where
 unfoldable pub fresh : World
 fresh = record { state = S.fresh; table = replicate tableSize 0 }
 
--- all that is an account's own: its part of the table and its last id
+-- all that is an account's own: its part of the table, its last id, and its receivers' receipts, session by session
 pub record Own : Type 0 where
   pub part : List ℕ
   pub last : ℕ
+  pub receipts : List Receipt
 
-abbrev pub owning : List ℕ → ℕ → Own
-owning p n = record { part = p; last = n }
+abbrev pub owning : List ℕ → ℕ → List Receipt → Own
+owning p n rs = record { part = p; last = n; receipts = rs }
 
 -- what is account a's own in a world
 abbrev pub ownOf : World → ℕ → Own
-ownOf w a = owning (partOf a (w .table)) (lastAt (w .state) a)
+ownOf w a = owning (partOf a (w .table)) (lastAt (w .state) a) (receiptsOf (w .state) a)
 
 -- the world with account a's own replaced, and with session s's entry replaced
 abbrev pub putOwn : World → ℕ → Own → World
-putOwn w a o = record { state = issued (w .state) a (o .last); table = putPart a (o .part) (w .table) }
+putOwn w a o = record { state = granted (issued (w .state) a (o .last)) a (o .receipts); table = putPart a (o .part) (w .table) }
 
 abbrev pub putEntry : World → ℕ → Entry → World
 putEntry w s e = record { state = bound (w .state) s e; table = w .table }
+
+-- an open session that stays open is left as it was
+abbrev pub become : World → ℕ → Entry → World
+become w s Closed = putEntry w s Closed
+become w s Open = w
+become w s (Transmitter a) = putEntry w s (Transmitter a)
+become w s (Receiver a) = putEntry w s (Receiver a)
+become w s Ended = putEntry w s Ended
 
 -- ---- what is asked, in four kinds of step: a session is opened; it is closed; something (an X) is asked on a session; something (a Q) is asked
 -- of an account. A step holds what its call is given, but for the book, the table and the state
@@ -59,17 +69,17 @@ pub data Step (X Q : Type 0) : Type 0 where
   on : ℕ → X → Step X Q
   of : ℕ → Q → Step X Q
 
--- what an account is asked: an X on a session with that entry, or a Q
+-- what an account is asked: an X on a session, with that number and that entry, or a Q
 pub data Request (X Q : Type 0) : Type 0 where
-  onSession : Entry → X → Request X Q
+  onSession : ℕ → Entry → X → Request X Q
   ofAccount : Q → Request X Q
 
 -- ---- what is answered
 
--- by an account's function: the answer, what is the account's own afterwards, and whether the session ends
-pub record Effect (R : Type 0) : Type 0 where
+-- by an account's function: the answer, what is the account's own (an O) afterwards, and whether the session ends
+pub record Effect (O R : Type 0) : Type 0 where
   pub answer : R
-  pub own : Own
+  pub own : O
   pub ends : Bool
 
 -- by an open session's function: the answer, and the session's entry afterwards
@@ -99,7 +109,7 @@ pub record Machine : Type 1 where
   -- an X on an open session
   pub front : Book → X → Front R
   -- anything asked of account a, which sees what is its own
-  pub act : Book → ℕ → Request X Q → Own → Effect R
+  pub act : Book → ℕ → Request X Q → Own → Effect Own R
 
 module _ (m : Machine) where
   open Machine m using (Book, X, Q, R, numbered, refusedOn, refusedOf, earlyOn, earlyOf, front, act)
@@ -108,10 +118,10 @@ module _ (m : Machine) where
   unchanged w r = record { answer = r; world = w }
 
   -- account a is asked, and what it gives is put into the world
-  abbrev pub ask : Book → World → ℕ → Request X Q → Effect R
+  abbrev pub ask : Book → World → ℕ → Request X Q → Effect Own R
   ask b w a q = act b a q (ownOf w a)
 
-  abbrev pub put : World → ℕ → Effect R → Ran R
+  abbrev pub put : World → ℕ → Effect Own R → Ran R
   put w a e = record { answer = e .answer; world = putOwn w a (e .own) }
 
   -- ---- opening and closing: the state alone moves
@@ -121,15 +131,16 @@ module _ (m : Machine) where
 
   -- ---- on a session: 2, then what the arguments give, 6, 9, and then what the session's entry makes of it
 
-  abbrev pub settle : World → ℕ → Entry → ℕ → Effect R → Ran R
-  settle w s e a r = put (putEntry w s (if r .ends then Ended else e)) a r
+  -- a session that ends, or goes on as it was; then what the account gives is put
+  abbrev pub settle : World → ℕ → ℕ → Effect Own R → Ran R
+  settle w s a r = put (if r .ends then putEntry w s Ended else w) a r
 
   abbrev pub onAccount : Book → World → ℕ → X → Entry → ℕ → Ran R
-  onAccount b w s x e a = if ltb a accountCount then settle w s e a (ask b w a (onSession e x)) else unchanged w (refusedOn 9 x)
+  onAccount b w s x e a = if ltb a accountCount then settle w s a (ask b w a (onSession s e x)) else unchanged w (refusedOn 9 x)
 
   abbrev pub onEntry : Book → World → ℕ → X → Entry → Ran R
   onEntry b w s x Closed = unchanged w (refusedOn 6 x)
-  onEntry b w s x Open = record { answer = front b x .answer; world = putEntry w s (front b x .after) }
+  onEntry b w s x Open = record { answer = front b x .answer; world = become w s (front b x .after) }
   onEntry b w s x (Transmitter a) = onAccount b w s x (Transmitter a) a
   onEntry b w s x (Receiver a) = onAccount b w s x (Receiver a) a
   onEntry b w s x Ended = unchanged w (refusedOn 6 x)

@@ -11,7 +11,7 @@ use lib.Seq.{drop-cons, take-nil, take-all, take-take, drop-drop, drop-length}
 use lib.Dec.{eqb}
 use borrow.Author.Tests.{eqb-true}
 use Rattle.octets.specs.Choice.{if_then_else_}
-use Rattle.octets.specs.Stretch.{same, every, part}
+use Rattle.octets.specs.Stretch.{same, every, among, part}
 
 -- ---- tests that hold together
 
@@ -47,6 +47,14 @@ or-left false b h = refl
 pub or-right : (a b : Bool) → (a || b) ≡ false → b ≡ false
 or-right true b h = absurd (false≢true (sym h))
 or-right false b h = h
+
+pub or-assoc : (a b c : Bool) → ((a || b) || c) ≡ (a || (b || c))
+or-assoc true b c = refl
+or-assoc false b c = refl
+
+pub or-false : (a : Bool) → (a || false) ≡ a
+or-false true = refl
+or-false false = refl
 
 -- ---- a choice, by cases on its test
 
@@ -90,6 +98,16 @@ every-set p [] i y h g = refl
 every-set p (x ∷ xs) zero y h g = and-both (p y) (every p xs) g (and-right (p x) (every p xs) h)
 every-set p (x ∷ xs) (suc i) y h g =
     and-both (p x) (every p (set xs i y)) (and-left (p x) (every p xs) h) (every-set p xs i y (and-right (p x) (every p xs) h) g)
+
+-- ---- among: the same loop, with the finds so far in `so`
+
+pub among-turn : (n : ℕ) (so : Bool) (xs : List ℕ) (i : ℕ) → i < length xs
+    → (so || among n (drop i xs)) ≡ ((so || eqb n (getD xs i 0)) || among n (drop (i + 1) xs))
+among-turn n so xs i h =
+    rw (drop-cons xs i 0 h, add-one i) (sym (or-assoc so (eqb n (getD xs i 0)) (among n (drop (suc i) xs))))
+
+pub among-end : (n : ℕ) (so : Bool) (xs : List ℕ) (i : ℕ) → length xs ≤ i → (so || among n (drop i xs)) ≡ so
+among-end n so xs i h = rw (drop-of-length-le xs {i = i} h) (or-false so)
 
 -- ---- same
 

@@ -1,7 +1,7 @@
 -- Stretches of octets, as lists: a part, a list with a part replaced, and tests.
 use Prim.Native.Nat.{ℕ, zero, suc, _-_}
 use mathlib.Core.List.{List, [], _∷_, _++_}
-use mathlib.Core.Bool.{Bool, true, false, _&&_}
+use mathlib.Core.Bool.{Bool, true, false, _&&_, _||_}
 use lib.ListN.{length, take, drop, replicate}
 use lib.Dec.{eqb}
 
@@ -37,3 +37,8 @@ isZero x = eqb x 0
 
 abbrev pub zeros : List ℕ → Bool
 zeros xs = every isZero xs
+
+-- n is one of them
+abbrev pub among : ℕ → List ℕ → Bool
+among n [] = false
+among n (x ∷ xs) = eqb n x || among n xs

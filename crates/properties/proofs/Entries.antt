@@ -3,34 +3,33 @@ use Prim.Native.Nat.{ℕ, zero, suc, _<_}
 use mathlib.Core.Path.{_≡_, refl, sym, subst, _∙_}
 use mathlib.Core.Bool.{Bool, true, false, false≢true}
 use mathlib.Core.List.{List, [], _∷_}
-use lib.Dec.{leb, ltb, eqb}
-use lib.ListN.{getD, set, length}
+use lib.ListN.{getD, set}
 use lib.ListN as L
 use borrow.Author.Tests.{eqb-true}
 use Rattle.octets.specs.Choice.{if_then_else_}
 use Rattle.octets.proofs.StretchLaws.{if-cases}
-use Rattle.wire.specs.Command.{Command, BindReceiver, BindTransmitter, QuerySm, SubmitSm, Unbind, ReplaceSm, CancelSm, EnquireLink, Response, Unknown, commandOf}
 use Rattle.wire.specs.Status.{invalidPassword}
 use Rattle.wire.specs.Fields.{octetsOf}
-use Rattle.wire.specs.Frame.{frameOf}
-use Rattle.wire.specs.declared.frame.Frame.{Frame}
-use Rattle.wire.specs.declared.frame.Frame.the-variants.{More, Malformed, Whole}
 use Rattle.requests.specs.Bind.{bindOf}
 use Rattle.records.specs.Book.{bookRecord, usedOk, passwordIs}
 use Rattle.store.specs.Search.{namedPlace}
-use Rattle.session.specs.State.{sessionCount, accountCount, closedSession, entryAt, opened, openedFrom, closed}
+use Rattle.session.specs.State.{sessionCount, accountCount, closedSession, sessionWith, entryAt}
 use Rattle.session.specs.declared.Entry.{Entry}
 use Rattle.session.specs.declared.Entry.the-variants.{Closed, Open, Transmitter, Receiver, Ended}
-use Rattle.session.specs.declared.Moved.{Moved}
 use Rattle.session.specs.declared.Session.{Session}
-use Rattle.isolation.specs.Platform.{World, fresh, putEntry, Step, opens, closes, on, of, Ran, ask, onSession, move, onAccount, onEntry, step}
+use Rattle.session.proofs.ReceiptLaws.{granting-entry}
+use Rattle.isolation.specs.Platform.{World, fresh, Own, putOwn, putEntry, become, Step, opens, closes, on, of, Front, Ran, ask, onSession, ofAccount, step}
 use Rattle.isolation.specs.History.{boundTo, after}
-use Rattle.answers.specs.Answer.{Octets, Question, Answer}
-use Rattle.open.specs.Open.{notBound, legOf, bindTo, openBind, openCommand, openFrame, onOpen}
+use Rattle.answers.specs.Answer.{Call, taking, delivering, Question, Answer}
+use Rattle.open.specs.Open.{notBound, legOf, bindTo}
 use Rattle.open.specs.declared.Bound.{Bound}
-use Rattle.centre.specs.Centre.{centre, earlyOctets, earlyQuestion}
+use Rattle.centre.specs.Centre.{centre, onFront}
 use Rattle.wellformed.proofs.Cases.{found-cases, read-cases}
 use Rattle.properties.proofs.Named.{named-used}
+use Rattle.properties.proofs.OpenCases.{open-cases}
+use Rattle.properties.proofs.MoveCases.{opens-cases, closes-cases}
+use Rattle.properties.proofs.OnCases.{on-cases}
+use Rattle.properties.proofs.OfCases.{of-cases}
 
 -- what holds of every session holds still, once one is put of which it holds
 set-each : (H : Session → Type 0) (xs : List Session) (i : ℕ) (y : Session) → H y → ((j : ℕ) → H (getD xs j closedSession))
@@ -53,7 +52,7 @@ module _ (book : List ℕ) where
   unbound : (e : Entry) → ((a : ℕ) → boundTo a e ≡ false) → Leads e
   unbound e h a t = absurd (false≢true (sym (h a) ∙ t))
 
-  -- ---- octets on an open session
+  -- ---- on an open session
 
   leg-leads : (receiver : Bool) (a : ℕ) → Used a → Leads (legOf receiver a)
   leg-leads true a u b t = subst Used (eqb-true a b t) u
@@ -73,27 +72,18 @@ module _ (book : List ℕ) where
       if-cases Q (passwordIs (octetsOf (b .password) body) (bookRecord a book)) _ _ (λ _. leg-leads receiver a (record { below = n .0; used = n .1 })) (λ _. refused))
       (λ _. refused)
 
-  -- a request that isn't a bind leaves the session open
-  stays-open : Leads Open
-  stays-open = unbound Open (λ _. refl)
-
-  command-leads : (n sequence : ℕ) (body space : List ℕ) (command : Command) → Leads (openCommand book n sequence body space command .after)
-  unfolding openBind
-  command-leads n sequence body space BindReceiver = bind-leads true body
-  command-leads n sequence body space BindTransmitter = bind-leads false body
-  command-leads n sequence body space QuerySm = stays-open
-  command-leads n sequence body space SubmitSm = stays-open
-  command-leads n sequence body space Unbind = stays-open
-  command-leads n sequence body space ReplaceSm = stays-open
-  command-leads n sequence body space CancelSm = stays-open
-  command-leads n sequence body space EnquireLink = stays-open
-  command-leads n sequence body space Response = stays-open
-  command-leads n sequence body space Unknown = stays-open
-
-  frame-leads : (os space : List ℕ) (frame : Frame) → Leads (openFrame book os space frame .after)
-  frame-leads os space More = stays-open
-  frame-leads os space Malformed = unbound Ended (λ _. refl)
-  frame-leads os space (Whole n) = command-leads _ _ _ _ (commandOf _)
+  front-leads : (x : Call) → Leads (onFront book x .after)
+  front-leads (taking x) =
+      let stays : Leads Open = unbound Open (λ _. refl) in
+      open-cases book x (λ (f : Front Answer). Leads (f .after))
+      (record {
+        more = stays;
+        nak = unbound Ended (λ _. refl);
+        quiet = λ _. stays;
+        replies = λ _ _ _ _ _ _. stays;
+        binds = λ _ _ _ receiver body. bind-leads receiver body;
+      })
+  front-leads (delivering y) = unbound Open (λ _. refl)
 
   -- ---- steps
 
@@ -103,44 +93,37 @@ module _ (book : List ℕ) where
   abbrev AllAfter : Ran Answer → Type 0
   AllAfter r = AllLead (r .world)
 
+  -- what is an account's own leaves the entries
+  own-lead : (w : World) (a : ℕ) (o : Own) → AllLead w → AllLead (putOwn w a o)
+  own-lead w a o h s = rw (granting-entry a (w .state .sessions) (o .receipts) s) (h s)
+
   module _ (w : World) (h : AllLead w) where
     put-lead : (s : ℕ) (e : Entry) → Leads e → AllLead (putEntry w s e)
-    put-lead s e l = set-each (λ ses. Leads (ses .entry)) (w .state .sessions) s (record { entry = e }) l h
+    put-lead s e l = set-each (λ ses. Leads (ses .entry)) (w .state .sessions) s (sessionWith e) l h
 
-    opened-lead : (s : ℕ) (e : Entry) → AllAfter (move centre w (openedFrom (w .state) s e))
-    opened-lead s Closed = put-lead s Open (unbound Open (λ _. refl))
-    opened-lead s Open = h
-    opened-lead s (Transmitter a) = h
-    opened-lead s (Receiver a) = h
-    opened-lead s Ended = h
+    become-lead : (s : ℕ) (e : Entry) → Leads e → AllLead (become w s e)
+    become-lead s Closed l = put-lead s Closed l
+    become-lead s Open l = h
+    become-lead s (Transmitter a) l = put-lead s (Transmitter a) l
+    become-lead s (Receiver a) l = put-lead s (Receiver a) l
+    become-lead s Ended l = put-lead s Ended l
 
-    onAccount-lead : (s : ℕ) (x : Octets) (e : Entry) (a : ℕ) → Leads e → AllAfter (onAccount centre book w s x e a)
-    onAccount-lead s x e a l =
-        if-cases AllAfter (ltb a accountCount) _ _
-        (λ _. put-lead s _ (if-cases Leads (ask centre book w a (onSession e x) .ends) Ended e (λ _. unbound Ended (λ _. refl)) (λ _. l)))
-        (λ _. h)
-
-    onEntry-lead : (s : ℕ) (x : Octets) (e : Entry) → Leads e → AllAfter (onEntry centre book w s x e)
-    unfolding onOpen
-    onEntry-lead s x Closed l = h
-    onEntry-lead s x Open l = put-lead s _ (frame-leads (x .octets) (x .space) (frameOf (x .octets)))
-    onEntry-lead s x (Transmitter a) l = onAccount-lead s x (Transmitter a) a l
-    onEntry-lead s x (Receiver a) l = onAccount-lead s x (Receiver a) a l
-    onEntry-lead s x Ended l = h
-
-    step-lead : (st : Step Octets Question) → AllAfter (step centre book w st)
-    unfolding step opened closed
-    step-lead (opens s) =
-        if-cases (λ (r : Moved). AllAfter (move centre w r)) (leb sessionCount s) _ _ (λ _. h) (λ _. opened-lead s (entryAt (w .state) s))
-    step-lead (closes s) =
-        if-cases (λ (r : Moved). AllAfter (move centre w r)) (leb sessionCount s) _ _ (λ _. h) (λ _. put-lead s Closed (unbound Closed (λ _. refl)))
+    step-lead : (st : Step Call Question) → AllAfter (step centre book w st)
+    step-lead (opens s) = opens-cases book w s AllAfter h h (λ _ _. put-lead s Open (unbound Open (λ _. refl)))
+    step-lead (closes s) = closes-cases book w s AllAfter h (λ _. put-lead s Closed (unbound Closed (λ _. refl)))
     step-lead (on s x) =
-        if-cases AllAfter (leb sessionCount s) _ _ (λ _. h) λ _.
-        if-cases AllAfter (eqb (earlyOctets book (length (w .table)) x) 0) _ _ (λ _. onEntry-lead s x (entryAt (w .state) s) (h s)) (λ _. h)
-    step-lead (of a q) =
-        if-cases AllAfter (eqb (earlyQuestion book (length (w .table)) q) 0) _ _ (λ _. if-cases AllAfter (ltb a accountCount) _ _ (λ _. h) (λ _. h)) (λ _. h)
+        on-cases book w s x AllAfter
+        (record {
+          refused = λ _ _. h;
+          front = λ _ _. become-lead s (onFront book x .after) (front-leads x);
+          asked = λ _ a e _.
+              let r = ask centre book w a (onSession s e x) in
+              own-lead (if r .ends then putEntry w s Ended else w) a (r .own)
+              (if-cases AllLead (r .ends) (putEntry w s Ended) w (λ _. put-lead s Ended (unbound Ended (λ _. refl))) (λ _. h));
+        })
+    step-lead (of a q) = of-cases book w a q AllAfter (λ _ _. h) (λ _ _. own-lead w a (ask centre book w a (ofAccount q) .own) h)
 
-  after-lead : (hs : List (Step Octets Question)) (w : World) → AllLead w → AllLead (after centre book w hs)
+  after-lead : (hs : List (Step Call Question)) (w : World) → AllLead w → AllLead (after centre book w hs)
   after-lead [] w h = h
   after-lead (st ∷ hs) w h = after-lead hs _ (step-lead w h st)
 
@@ -149,6 +132,6 @@ module _ (book : List ℕ) where
   fresh-lead (suc n) zero = unbound Closed (λ _. refl)
   fresh-lead (suc n) (suc s) = fresh-lead n s
 
-  pub history-lead : (hs : List (Step Octets Question)) → AllLead (after centre book fresh hs)
+  pub history-lead : (hs : List (Step Call Question)) → AllLead (after centre book fresh hs)
   unfolding fresh
   history-lead hs = after-lead hs fresh (fresh-lead sessionCount)

@@ -1,131 +1,123 @@
--- The numbers that calls give: what holds of each number that a step can have holds of the one that it has. Assumes nothing.
+-- The numbers that calls give: what holds of each number that a step can have, of 9 where the account is at fault, holds of the one that it has.
+-- Assumes nothing.
 use Prim.Native.Nat.{ℕ, _<_}
+use native.Mathlib.Omega.{arith}
 use mathlib.Core.Path.{_≡_, refl, sym, subst, _∙_}
-use mathlib.Core.Bool.{Bool, true, false, not, false≢true}
+use mathlib.Core.Bool.{true, false, false≢true}
 use mathlib.Core.List.{List}
-use lib.Dec.{leb, ltb, eqb}
-use lib.ListN.{length, take}
-use borrow.Author.Tests.{eq-eqb, lt-ltb, not-true}
+use lib.Dec.{eqb}
+use lib.ListN.{length}
+use Rattle.octets.specs.Stretch.{among}
 use Rattle.octets.proofs.StretchLaws.{if-cases}
-use Rattle.wire.specs.Frame.{frameOf}
-use Rattle.wire.specs.declared.frame.Frame.{Frame}
-use Rattle.wire.specs.declared.frame.Frame.the-variants.{More, Malformed, Whole}
 use Rattle.records.specs.Book.{bookRecord}
 use Rattle.store.specs.Account.{accountOk}
-use Rattle.store.specs.Places.{recordAt}
-use Rattle.store.specs.Search.{nextPlace}
-use Rattle.account.specs.Outcome.{reported}
-use Rattle.session.specs.State.{sessionCount, accountCount, entryAt, lastAt, opened, openedFrom, closed}
-use Rattle.session.specs.declared.Entry.{Entry}
-use Rattle.session.specs.declared.Entry.the-variants.{Closed, Open, Transmitter, Receiver, Ended}
-use Rattle.session.specs.declared.Moved.{Moved}
-use Rattle.isolation.specs.Platform.{World, partOf, Own, opens, closes, on, of, Effect, Ran, onAccount, onEntry, step}
+use Rattle.session.specs.State.{accountCount, entryAt, receiverOf}
+use Rattle.isolation.specs.Platform.{World, Own, ownOf, Step, opens, closes, on, of, Effect, Front, Ran, step}
 use Rattle.isolation.specs.History.{boundTo}
-use Rattle.answers.specs.Answer.{Octets, Outcome, outcome, pick, Answer, numbered, picked, numberOf}
-use Rattle.open.specs.Open.{openFrame, onOpen}
-use Rattle.bound.specs.Bound.{Turn, replying, keeping, isTransmitter, onBound}
-use Rattle.centre.specs.Operations.{onOutcome, onPick}
-use Rattle.centre.specs.Centre.{centre, act, octetsEarly, outcomeEarly, pickEarly, earlyOctets}
-use Rattle.wellformed.proofs.Cases.{found-cases}
-use Rattle.properties.specs.Property1.{wellFormed}
+use Rattle.answers.specs.Answer.{Octets, Delivery, Call, taking, delivering, Outcome, Question, outcome, pick, Answer, numberOf}
+use Rattle.bound.specs.Bound.{Turn, isTransmitter}
+use Rattle.centre.specs.Operations.{Noted}
+use Rattle.centre.specs.Centre.{centre, octetsEarly, deliveryEarly, outcomeEarly, pickEarly, earlyCall, earlyQuestion, act}
+use Rattle.properties.specs.Property1.{wellFormed, numbersOf}
+use Rattle.properties.proofs.OpenCases.{open-cases}
+use Rattle.properties.proofs.TurnCases.{any-turn}
 use Rattle.properties.proofs.BoundCases.{bound-cases}
-use Rattle.properties.proofs.Refused.{pdu-zero}
+use Rattle.properties.proofs.DeliveryCases.{delivery-cases}
+use Rattle.properties.proofs.QuestionCases.{noted-cases, picked-cases}
+use Rattle.properties.proofs.MoveCases.{opens-cases, closes-cases}
+use Rattle.properties.proofs.OnCases.{RefusedOn, above, early, unfit, nobody, on-cases}
+use Rattle.properties.proofs.OfCases.{RefusedOf, unready, beyond, of-cases}
 
 module _ (N : ℕ → Type 0) where
-  abbrev Effects : Effect Answer → Type 0
+  abbrev Effects : Effect Own Answer → Type 0
   Effects e = N (numberOf (e .answer))
 
   abbrev Gives : Ran Answer → Type 0
   Gives r = N (numberOf (r .answer))
 
-  -- ---- an account asked
-
-  module _ (book : List ℕ) (own : Own) (done : N 0) (ill : accountOk book (own .last) (own .part) ≡ false → N 9) where
-    bound-number : (transmitter : Bool) (x : Octets) → N 1 → Effects (onBound transmitter book x own)
-    unfolding replying
-    bound-number transmitter x more =
-        bound-cases book x own Effects (λ (t : Turn). Unit) transmitter ill
-        (λ _. record { same = λ _ _ _. tt; submits = λ _. tt; cancels = λ _. tt; replaces = λ _. tt })
-        (record { more = more; nak = done; quiet = λ _. done; replies = λ _ _ _ _ _. done })
-
-    outcome-number : (x : Outcome) → N 8 → N 10 → Effects (onOutcome book x own)
-    unfolding onOutcome
-    outcome-number x wrong none =
-        if-cases Effects _ _ _ (λ _. wrong) λ _.
-        if-cases Effects (not (accountOk book (own .last) (own .part))) _ _ (λ t. ill (not-true (accountOk book (own .last) (own .part)) t)) λ _.
-        if-cases N (reported (x .stamp) (x .id) (x .state) (x .error) (own .part) .waited) _ _ (λ _. done) (λ _. none)
-
-    pick-number : N 11 → Effects (onPick book own)
-    unfolding onPick
-    pick-number none =
-        if-cases Effects (not (accountOk book (own .last) (own .part))) _ _ (λ t. ill (not-true (accountOk book (own .last) (own .part)) t)) λ _.
-        found-cases Effects (nextPlace (own .part)) (λ k. keeping (picked k (recordAt k (own .part))) own) (keeping (numbered 11) own)
-        (λ _ _. done) (λ _. none)
-
-  -- ---- steps
+  -- each number of the step but 9
+  abbrev pub Each : Step Call Question → Type 0
+  Each st = (n : ℕ) → among n (numbersOf st) ≡ true → eqb n 9 ≡ false → N n
 
   module _ (book : List ℕ) (w : World) where
+    pub opens-number : (s : ℕ) → Each (opens s) → Gives (step centre book w (opens s))
+    opens-number s each = opens-cases book w s Gives (each 2 refl refl) (each 6 refl refl) (λ _ _. each 0 refl refl)
+
+    pub closes-number : (s : ℕ) → Each (closes s) → Gives (step centre book w (closes s))
+    closes-number s each = closes-cases book w s Gives (each 2 refl refl) (λ _. each 0 refl refl)
+
     -- an account above 7, or an ill-formed one
     abbrev pub Ill : ℕ → Type 0
     Ill a = a < accountCount → wellFormed book w a → ⊥
 
-    ill-formed : (a : ℕ) → (Ill a → N 9) → accountOk (bookRecord a book) (lastAt (w .state) a) (partOf a (w .table)) ≡ false → N 9
-    ill-formed a nine f = nine (λ _ ok. false≢true (sym f ∙ ok))
+    ill-formed : (a : ℕ) → (let own = ownOf w a in accountOk (bookRecord a book) (own .last) (own .part) ≡ false) → Ill a
+    ill-formed a f below ok = false≢true (sym f ∙ ok)
 
-    opened-number : (s : ℕ) (e : Entry) → N 0 → N 6 → N (openedFrom (w .state) s e .number)
-    opened-number s Closed done unfit = done
-    opened-number s Open done unfit = unfit
-    opened-number s (Transmitter a) done unfit = unfit
-    opened-number s (Receiver a) done unfit = unfit
-    opened-number s Ended done unfit = unfit
+    -- ---- on a session
 
-    pub opens-number : (s : ℕ) → N 0 → N 2 → N 6 → Gives (step centre book w (opens s))
-    unfolding step opened
-    opens-number s done above unfit =
-        if-cases (λ (r : Moved). N (r .number)) (leb sessionCount s) _ _ (λ _. above) (λ _. opened-number s (entryAt (w .state) s) done unfit)
+    module _ (s : ℕ) (nine : (a : ℕ) → boundTo a (entryAt (w .state) s) ≡ true → Ill a → N 9) where
+      refused-on : (x : Call) → N 2 → N (earlyCall book (length (w .table)) x) → N 6 → (n : ℕ) → RefusedOn book w s x n → N n
+      refused-on x two first six n (above _) = two
+      refused-on x two first six n (early ne e) = subst N e first
+      refused-on x two first six n (unfit _) = six
+      refused-on x two first six n (nobody a bound over) = nine a bound (λ below _. omega arith)
 
-    pub closes-number : (s : ℕ) → N 0 → N 2 → Gives (step centre book w (closes s))
-    unfolding step closed
-    closes-number s done above = if-cases (λ (r : Moved). N (r .number)) (leb sessionCount s) _ _ (λ _. above) (λ _. done)
+      pub octets-number : (x : Octets) → Each (on s (taking x)) → Gives (step centre book w (on s (taking x)))
+      unfolding octetsEarly act
+      octets-number x each =
+          let done = each 0 refl refl in
+          let more = each 1 refl refl in
+          let first : N (earlyCall book (length (w .table)) (taking x)) =
+          if-cases N _ _ _ (λ _. each 3 refl refl) λ _. if-cases N _ _ _ (λ _. each 4 refl refl) λ _. if-cases N _ _ _ (λ _. each 5 refl refl) (λ _. done) in
+          on-cases book w s (taking x) Gives
+          (record {
+            refused = refused-on (taking x) (each 2 refl refl) first (each 6 refl refl);
+            front = λ _ _.
+                open-cases book x (λ (f : Front Answer). N (numberOf (f .answer)))
+                (record { more = more; nak = done; quiet = λ _. done; replies = λ _ _ _ _ _ _. done; binds = λ _ _ _ _ _. done });
+            asked = λ _ a e b.
+                bound-cases (bookRecord a book) s x (ownOf w a) Effects (λ (t : Turn). Unit) (isTransmitter e) (λ ill. nine a (b .bound) (ill-formed a ill))
+                (λ _. any-turn _ _ _)
+                (λ _. record { more = more; nak = done; quiet = λ _ _. done; replies = λ _ _ _ _ _. done });
+          })
 
-    module _ (s : ℕ) (x : Octets) (done : N 0) (more : N 1) where
-      front-number : (frame : Frame) → N (numberOf (openFrame book (x .octets) (x .space) frame .answer))
-      front-number More = more
-      front-number Malformed = done
-      front-number (Whole n) = subst N (sym (pdu-zero book (take n (x .octets)) (x .space))) done
+      pub delivery-number : (y : Delivery) → Each (on s (delivering y)) → Gives (step centre book w (on s (delivering y)))
+      unfolding deliveryEarly act
+      delivery-number y each =
+          let first : N (earlyCall book (length (w .table)) (delivering y)) =
+          if-cases N _ _ _ (λ _. each 3 refl refl) λ _. if-cases N _ _ _ (λ _. each 4 refl refl) (λ _. each 0 refl refl) in
+          on-cases book w s (delivering y) Gives
+          (record {
+            refused = refused-on (delivering y) (each 2 refl refl) first (each 6 refl refl);
+            front = λ _ _. each 12 refl refl;
+            asked = λ _ a e b.
+                delivery-cases (receiverOf a e) (bookRecord a book) s y (ownOf w a) Effects
+                (record {
+                  ill = λ ill. nine a (b .bound) (ill-formed a ill);
+                  unfit = λ _. each 12 refl refl;
+                  nothing = λ _. each 13 refl refl;
+                  sends = λ _ _ _ _ _. each 0 refl refl;
+                });
+          })
 
-      onAccount-number : (e : Entry) (a : ℕ) → (Ill a → N 9) → Gives (onAccount centre book w s x e a)
-      unfolding act
-      onAccount-number e a nine =
-          if-cases Gives (ltb a accountCount) _ _ (λ _. bound-number _ _ done (ill-formed a nine) (isTransmitter e) x more)
-          (λ t. nine (λ below _. false≢true (sym t ∙ lt-ltb a accountCount below)))
+    -- ---- of an account
 
-      onEntry-number : (e : Entry) → N 6 → ((a : ℕ) → boundTo a e ≡ true → Ill a → N 9) → Gives (onEntry centre book w s x e)
-      unfolding onOpen
-      onEntry-number Closed unfit nine = unfit
-      onEntry-number Open unfit nine = front-number (frameOf (x .octets))
-      onEntry-number (Transmitter a) unfit nine = onAccount-number (Transmitter a) a (nine a (eq-eqb a a refl))
-      onEntry-number (Receiver a) unfit nine = onAccount-number (Receiver a) a (nine a (eq-eqb a a refl))
-      onEntry-number Ended unfit nine = unfit
+    module _ (a : ℕ) (nine : Ill a → N 9) where
+      refused-of : (q : Question) → N (earlyQuestion book (length (w .table)) q) → N 7 → (n : ℕ) → RefusedOf book w a q n → N n
+      refused-of q first seven n (unready ne e) = subst N e first
+      refused-of q first seven n beyond = seven
 
-      pub octets-number : N 2 → N 3 → N 4 → N 5 → N 6 → ((a : ℕ) → boundTo a (entryAt (w .state) s) ≡ true → Ill a → N 9)
-          → Gives (step centre book w (on s x))
-      unfolding step octetsEarly
-      octets-number above sizes small stamp unfit nine =
-          if-cases Gives (leb sessionCount s) _ _ (λ _. above) λ _.
-          if-cases Gives (eqb (earlyOctets book (length (w .table)) x) 0) _ _ (λ _. onEntry-number (entryAt (w .state) s) unfit nine) λ _.
-          if-cases N _ _ _ (λ _. sizes) λ _. if-cases N _ _ _ (λ _. small) λ _. if-cases N _ _ _ (λ _. stamp) (λ _. done)
+      pub outcome-number : (x : Outcome) → Each (of a (outcome x)) → Gives (step centre book w (of a (outcome x)))
+      unfolding outcomeEarly act
+      outcome-number x each =
+          let first : N (earlyQuestion book (length (w .table)) (outcome x)) =
+          if-cases N _ _ _ (λ _. each 3 refl refl) λ _. if-cases N _ _ _ (λ _. each 5 refl refl) (λ _. each 0 refl refl) in
+          of-cases book w a (outcome x) Gives (refused-of (outcome x) first (each 7 refl refl))
+          (λ _ _. noted-cases _ _ _ x (λ (n : Noted). N (n .number)) (each 8 refl refl) (λ ill. nine (ill-formed a ill)) (each 10 refl refl) (λ _ _. each 0 refl refl))
 
-    pub outcome-step : (a : ℕ) (x : Outcome) → N 0 → N 3 → N 5 → N 7 → N 8 → (Ill a → N 9) → N 10 → Gives (step centre book w (of a (outcome x)))
-    unfolding step act outcomeEarly
-    outcome-step a x done sizes stamp above wrong nine none =
-        if-cases Gives (eqb (outcomeEarly (length book) (length (w .table)) (x .stamp)) 0) _ _
-        (λ _. if-cases Gives (ltb a accountCount) _ _ (λ _. outcome-number _ _ done (ill-formed a nine) x wrong none) (λ _. above)) λ _.
-        if-cases N _ _ _ (λ _. sizes) λ _. if-cases N _ _ _ (λ _. stamp) (λ _. done)
-
-    pub pick-step : (a : ℕ) → N 0 → N 3 → N 7 → (Ill a → N 9) → N 11 → Gives (step centre book w (of a pick))
-    unfolding step act pickEarly
-    pick-step a done sizes above nine none =
-        if-cases Gives (eqb (pickEarly (length book) (length (w .table))) 0) _ _
-        (λ _. if-cases Gives (ltb a accountCount) _ _ (λ _. pick-number _ _ done (ill-formed a nine) none) (λ _. above)) λ _.
-        if-cases N _ _ _ (λ _. sizes) (λ _. done)
+      pub pick-number : Each (of a pick) → Gives (step centre book w (of a pick))
+      unfolding pickEarly act
+      pick-number each =
+          let first : N (earlyQuestion book (length (w .table)) pick) = if-cases N _ _ _ (λ _. each 3 refl refl) (λ _. each 0 refl refl) in
+          of-cases book w a pick Gives (refused-of pick first (each 7 refl refl))
+          (λ _ _. picked-cases _ _ _ (λ (r : Answer). N (numberOf r)) (λ ill. nine (ill-formed a ill)) (each 11 refl refl) (λ _ _ _. each 0 refl refl))

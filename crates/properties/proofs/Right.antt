@@ -1,47 +1,75 @@
 -- Number 0 comes only where session, buffers, time stamp and stored records are right. Assumes nothing.
 use Prim.Native.Nat.{ℕ, _<_}
 use native.Mathlib.Omega.{arith}
-use mathlib.Core.Path.{_≡_, refl, subst}
-use mathlib.Core.Bool.{Bool, true, not, false≢true}
+use mathlib.Core.Path.{_≡_, refl, sym, subst, _∙_}
+use mathlib.Core.Bool.{Bool, true, false≢true}
 use mathlib.Core.List.{List}
-use lib.Dec.{leb, ltb, eqb}
-use lib.ListN.{length}
-use borrow.Author.Tests.{leb-false, ltb-true, eqb-true, eqb-false, not-false}
+use lib.ListN.{getD}
+use borrow.Author.Tests.{eqb-true}
 use Rattle.octets.proofs.StretchLaws.{if-cases}
 use Rattle.store.specs.Account.{accountOk}
-use Rattle.session.specs.State.{sessionCount, accountCount, entryAt, openedFrom, opened, closed}
+use Rattle.session.specs.State.{accountCount, entryAt, receiverOf, receiptsOf}
 use Rattle.session.specs.declared.Entry.{Entry}
 use Rattle.session.specs.declared.Entry.the-variants.{Closed, Open, Transmitter, Receiver, Ended}
-use Rattle.session.specs.declared.Moved.{Moved}
-use Rattle.isolation.specs.Platform.{World, Own, Step, opens, closes, on, of, Effect, Ran, onAccount, onEntry, step}
+use Rattle.session.specs.declared.Receipt.the-variants.{None}
+use Rattle.isolation.specs.Platform.{World, Own, Step, opens, closes, on, of, Effect, Ran, step}
 use Rattle.isolation.specs.History.{boundTo}
-use Rattle.answers.specs.Answer.{Octets, Outcome, Question, outcome, pick, Answer, numberOf}
-use Rattle.bound.specs.Bound.{isTransmitter, onBound}
-use Rattle.centre.specs.Operations.{outcomeOk, onOutcome, onPick}
-use Rattle.centre.specs.Centre.{centre, act, earlyOctets, outcomeEarly, pickEarly}
-use Rattle.properties.specs.Property1.{wellFormed, isLive, Right}
-use Rattle.properties.proofs.Early.{early-octets, early-outcome, early-pick}
+use Rattle.answers.specs.Answer.{Octets, Delivery, Call, taking, delivering, Question, outcome, pick, Answer, numberOf}
+use Rattle.bound.specs.Bound.{isTransmitter, Hand, onBound}
+use Rattle.centre.specs.Operations.{Noted}
+use Rattle.centre.specs.Centre.{centre, onOctets, onDelivery, act}
+use Rattle.properties.specs.Property1.{wellFormed, isLive, isReceiver, Right}
+use Rattle.properties.proofs.Early.{early-octets, early-delivery, early-outcome, early-pick}
+use Rattle.properties.proofs.DeliveryCases.{delivery-cases}
+use Rattle.properties.proofs.QuestionCases.{noted-cases, picked-cases}
+use Rattle.properties.proofs.MoveCases.{opens-cases, closes-cases}
+use Rattle.properties.proofs.OnCases.{on-refusal, on-cases}
+use Rattle.properties.proofs.OfCases.{of-refusal, of-cases}
 
--- ---- an account asked
+-- ---- entries
 
-module _ (book : List ℕ) (own : Own) where
-  abbrev Sound : Effect Answer → Type 0
-  Sound e = numberOf (e .answer) ≡ 0 → accountOk book (own .last) (own .part) ≡ true
+bound-live : (a : ℕ) (e : Entry) → boundTo a e ≡ true → isLive e ≡ true
+bound-live a Closed t = t
+bound-live a Open t = refl
+bound-live a (Transmitter b) t = refl
+bound-live a (Receiver b) t = refl
+bound-live a Ended t = t
 
-  bound-sound : (transmitter : Bool) (x : Octets) → Sound (onBound transmitter book x own)
-  unfolding onBound
-  bound-sound transmitter x = if-cases Sound (accountOk book (own .last) (own .part)) _ _ (λ ok _. ok) (λ _ z. absurd (omega arith))
+receiver-is : (a : ℕ) (e : Entry) → receiverOf a e ≡ true → isReceiver e ≡ true
+receiver-is a Closed t = t
+receiver-is a Open t = t
+receiver-is a (Transmitter b) t = t
+receiver-is a (Receiver b) t = refl
+receiver-is a Ended t = t
 
-  outcome-sound : (x : Outcome) → Sound (onOutcome book x own)
-  unfolding onOutcome
-  outcome-sound x =
-      if-cases Sound (not (outcomeOk (x .state))) _ _ (λ _ z. absurd (omega arith)) λ _.
-      if-cases Sound (not (accountOk book (own .last) (own .part))) _ _ (λ _ z. absurd (omega arith)) (λ ok _. not-false (accountOk book (own .last) (own .part)) ok)
+-- a session is bound to one account only
+bound-one : (a b : ℕ) (e : Entry) → boundTo a e ≡ true → boundTo b e ≡ true → a ≡ b
+bound-one a b Closed t u = absurd (false≢true t)
+bound-one a b Open t u = absurd (false≢true t)
+bound-one a b (Transmitter c) t u = sym (eqb-true c a t) ∙ eqb-true c b u
+bound-one a b (Receiver c) t u = sym (eqb-true c a t) ∙ eqb-true c b u
+bound-one a b Ended t u = absurd (false≢true t)
 
-  pick-sound : Sound (onPick book own)
-  unfolding onPick
-  pick-sound =
-      if-cases Sound (not (accountOk book (own .last) (own .part))) _ _ (λ _ z. absurd (omega arith)) (λ ok _. not-false (accountOk book (own .last) (own .part)) ok)
+-- ---- an account asked on a session
+
+module _ (book : List ℕ) (s : ℕ) (own : Own) where
+  abbrev Ok : Type 0
+  Ok = accountOk book (own .last) (own .part) ≡ true
+
+  octets-sound : (transmitter : Bool) (x : Octets) → numberOf (onOctets transmitter book s x own .answer) ≡ 0 → Ok
+  unfolding onOctets onBound
+  octets-sound transmitter x =
+      if-cases (λ (e : Effect Hand Answer). numberOf (e .answer) ≡ 0 → Ok) (accountOk book (own .last) (own .part)) _ _ (λ ok _. ok) (λ _ z. absurd (omega arith))
+
+  delivery-sound : (receiver : Bool) (y : Delivery) → numberOf (onDelivery receiver book s y own .answer) ≡ 0 → Ok × (receiver ≡ true) × (getD (own .receipts) s None ≡ None)
+  delivery-sound receiver y =
+      delivery-cases receiver book s y own (λ (e : Effect Own Answer). numberOf (e .answer) ≡ 0 → Ok × (receiver ≡ true) × (getD (own .receipts) s None ≡ None))
+      (record {
+        ill = λ _ z. absurd (omega arith);
+        unfit = λ _ z. absurd (omega arith);
+        nothing = λ _ z. absurd (omega arith);
+        sends = λ ok receives none _ _ _. (ok, receives, none);
+      })
 
 -- ---- steps
 
@@ -52,58 +80,44 @@ module _ (book : List ℕ) (w : World) where
   abbrev Known : ℕ → Type 0
   Known a = (a < accountCount) × wellFormed book w a
 
-  onAccount-right : (s : ℕ) (x : Octets) (e : Entry) (a : ℕ) → If (Known a) (onAccount centre book w s x e a)
+  abbrev Free : ℕ → ℕ → Type 0
+  Free s a = (a < accountCount) × wellFormed book w a × (getD (receiptsOf (w .state) a) s None ≡ None)
+
+  -- the account that the session is bound to is the only one
+  only : (K : ℕ → Type 0) (s a : ℕ) → boundTo a (entryAt (w .state) s) ≡ true → K a → (c : ℕ) → boundTo c (entryAt (w .state) s) ≡ true → K c
+  only K s a t k c u = subst K (bound-one a c (entryAt (w .state) s) t u) k
+
+  pub right : (st : Step Call Question) → If (Right book w st) (step centre book w st)
   unfolding act
-  onAccount-right s x e a =
-      if-cases (If (Known a)) (ltb a accountCount) _ _ (λ t z. (ltb-true a accountCount t, bound-sound _ _ (isTransmitter e) x z)) (λ _ z. absurd (omega arith))
-
-  onEntry-right : (s : ℕ) (x : Octets) (e : Entry) → If ((a : ℕ) → boundTo a e ≡ true → Known a) (onEntry centre book w s x e)
-  onEntry-right s x Closed z a t = absurd (false≢true t)
-  onEntry-right s x Open z a t = absurd (false≢true t)
-  onEntry-right s x (Transmitter b) z a t = subst Known (eqb-true b a t) (onAccount-right s x (Transmitter b) b z)
-  onEntry-right s x (Receiver b) z a t = subst Known (eqb-true b a t) (onAccount-right s x (Receiver b) b z)
-  onEntry-right s x Ended z a t = absurd (false≢true t)
-
-  onEntry-live : (s : ℕ) (x : Octets) (e : Entry) → If (isLive e ≡ true) (onEntry centre book w s x e)
-  onEntry-live s x Closed z = absurd (omega arith)
-  onEntry-live s x Open z = refl
-  onEntry-live s x (Transmitter a) z = refl
-  onEntry-live s x (Receiver a) z = refl
-  onEntry-live s x Ended z = absurd (omega arith)
-
-  openedFrom-closed : (s : ℕ) (e : Entry) → openedFrom (w .state) s e .number ≡ 0 → e ≡ Closed
-  openedFrom-closed s Closed z = refl
-  openedFrom-closed s Open z = absurd (omega arith)
-  openedFrom-closed s (Transmitter a) z = absurd (omega arith)
-  openedFrom-closed s (Receiver a) z = absurd (omega arith)
-  openedFrom-closed s Ended z = absurd (omega arith)
-
-  pub right : (st : Step Octets Question) → If (Right book w st) (step centre book w st)
-  unfolding step act opened closed
   right (opens s) =
-      if-cases (λ (r : Moved). r .number ≡ 0 → Right book w (opens s)) (leb sessionCount s) _ _ (λ _ z. absurd (omega arith))
-      (λ t z. (leb-false sessionCount s t, openedFrom-closed s (entryAt (w .state) s) z))
-  right (closes s) =
-      if-cases (λ (r : Moved). r .number ≡ 0 → s < sessionCount) (leb sessionCount s) _ _ (λ _ z. absurd (omega arith)) (λ t _. leb-false sessionCount s t)
-  right (on s x) =
-      let P = If (Right book w (on s x)) in
-      let early = earlyOctets book (length (w .table)) x in
-      if-cases P (leb sessionCount s) _ _ (λ _ z. absurd (omega arith)) λ t.
-      if-cases P (eqb early 0) _ _
-      (λ u z. let h = early-octets _ _ _ _ (eqb-true early 0 u) in
-      (leb-false sessionCount s t, onEntry-live s x (entryAt (w .state) s) z, h .0 .0, h .0 .1, h .1, h .2, onEntry-right s x (entryAt (w .state) s) z))
-      (λ u z. absurd (eqb-false early 0 u z))
+      opens-cases book w s (If (Right book w (opens s))) (λ z. absurd (omega arith)) (λ z. absurd (omega arith)) (λ below closed _. (below, closed))
+  right (closes s) = closes-cases book w s (If (Right book w (closes s))) (λ z. absurd (omega arith)) (λ below _. below)
+  right (on s (taking x)) =
+      on-cases book w s (taking x) (If (Right book w (on s (taking x))))
+      (record {
+        refused = λ n why z. absurd (on-refusal book w s (taking x) n why z);
+        front = λ p h _. let f = early-octets _ _ _ _ (p .fits) in
+            (p .session, rw h, f .0 .0, f .0 .1, f .1, f .2, λ a t. absurd (false≢true (rw h at t)));
+        asked = λ p a e b z. let f = early-octets _ _ _ _ (p .fits) in
+            let ok = octets-sound _ s _ (isTransmitter e) x z in
+            (p .session, bound-live a (entryAt (w .state) s) (b .bound), f .0 .0, f .0 .1, f .1, f .2, only Known s a (b .bound) (b .below, ok));
+      })
+  right (on s (delivering y)) =
+      on-cases book w s (delivering y) (If (Right book w (on s (delivering y))))
+      (record {
+        refused = λ n why z. absurd (on-refusal book w s (delivering y) n why z);
+        front = λ _ _ z. absurd (omega arith);
+        asked = λ p a e b z. let f = early-delivery _ _ _ (p .fits) in
+            let o = delivery-sound _ s _ (receiverOf a e) y z in
+            (p .session, receiver-is a (entryAt (w .state) s) (rw (b .entry) (o .1)), f .0 .0, f .0 .1, f .1, only (Free s) s a (b .bound) (b .below, o .0, o .2));
+      })
   right (of a (outcome x)) =
-      let P = If (Right book w (of a (outcome x))) in
-      let early = outcomeEarly (length book) (length (w .table)) (x .stamp) in
-      if-cases P (eqb early 0) _ _
-      (λ u. let h = early-outcome _ _ _ (eqb-true early 0 u) in
-      if-cases P (ltb a accountCount) _ _ (λ t z. (h .0 .0, h .0 .1, h .1, ltb-true a accountCount t, outcome-sound _ _ x z)) (λ _ z. absurd (omega arith)))
-      (λ u z. absurd (eqb-false early 0 u z))
+      of-cases book w a (outcome x) (If (Right book w (of a (outcome x)))) (λ n why z. absurd (of-refusal book w a (outcome x) n why z))
+      (λ fits below. let f = early-outcome _ _ _ fits in
+      noted-cases _ _ _ x (λ (n : Noted). n .number ≡ 0 → Right book w (of a (outcome x))) (λ z. absurd (omega arith)) (λ _ z. absurd (omega arith)) (λ z. absurd (omega arith))
+      (λ _ ok _. (f .0 .0, f .0 .1, f .1, below, ok)))
   right (of a pick) =
-      let P = If (Right book w (of a pick)) in
-      let early = pickEarly (length book) (length (w .table)) in
-      if-cases P (eqb early 0) _ _
-      (λ u. let h = early-pick _ _ (eqb-true early 0 u) in
-      if-cases P (ltb a accountCount) _ _ (λ t z. (h .0, h .1, ltb-true a accountCount t, pick-sound _ _ z)) (λ _ z. absurd (omega arith)))
-      (λ u z. absurd (eqb-false early 0 u z))
+      of-cases book w a pick (If (Right book w (of a pick))) (λ n why z. absurd (of-refusal book w a pick n why z))
+      (λ fits below. let f = early-pick _ _ fits in
+      picked-cases _ _ _ (λ (r : Answer). numberOf r ≡ 0 → Right book w (of a pick)) (λ _ z. absurd (omega arith)) (λ z. absurd (omega arith))
+      (λ ok _ _ _. (f .0, f .1, below, ok)))

@@ -7,18 +7,20 @@ use Rattle.records.specs.Book.{bookRecord, usedOk}
 use Rattle.session.specs.State.{accountCount}
 use Rattle.isolation.specs.Platform.{fresh, Step, on, of}
 use Rattle.isolation.specs.History.{after}
-use Rattle.answers.specs.Answer.{Octets, Outcome, Question, outcome, pick, numberOf}
+use Rattle.answers.specs.Answer.{Octets, Delivery, Call, taking, delivering, Outcome, Question, outcome, pick, numberOf}
 use Rattle.centre.specs.Centre.{centre, step}
 use Rattle.properties.specs.Property1.{wellFormed}
 
 pub record Healthy : Type 0 where
-  pub stays : (book : List ℕ) (hs : List (Step Octets Question)) (a : ℕ) → a < accountCount → usedOk (bookRecord a book) ≡ true
+  pub stays : (book : List ℕ) (hs : List (Step Call Question)) (a : ℕ) → a < accountCount → usedOk (bookRecord a book) ≡ true
       → wellFormed book (after centre book fresh hs) a
-  -- so number 9 never comes from the centre's own writes: never for octets, since a session is only ever bound to such an account, and for an
-  -- outcome or a pick only where the book record is at fault
-  pub taking : (book : List ℕ) (hs : List (Step Octets Question)) (s : ℕ) (x : Octets)
-      → numberOf (step book (after centre book fresh hs) (on s x) .answer) ≡ 9 → ⊥
-  pub reporting : (book : List ℕ) (hs : List (Step Octets Question)) (a : ℕ) (x : Outcome) → a < accountCount → usedOk (bookRecord a book) ≡ true
+  -- so number 9 never comes from the centre's own writes: never for octets or a receipt, since a session is only ever bound to such an account, and
+  -- for an outcome or a pick only where the book record is at fault
+  pub taking : (book : List ℕ) (hs : List (Step Call Question)) (s : ℕ) (x : Octets)
+      → numberOf (step book (after centre book fresh hs) (on s (taking x)) .answer) ≡ 9 → ⊥
+  pub delivering : (book : List ℕ) (hs : List (Step Call Question)) (s : ℕ) (y : Delivery)
+      → numberOf (step book (after centre book fresh hs) (on s (delivering y)) .answer) ≡ 9 → ⊥
+  pub reporting : (book : List ℕ) (hs : List (Step Call Question)) (a : ℕ) (x : Outcome) → a < accountCount → usedOk (bookRecord a book) ≡ true
       → numberOf (step book (after centre book fresh hs) (of a (outcome x)) .answer) ≡ 9 → ⊥
-  pub picking : (book : List ℕ) (hs : List (Step Octets Question)) (a : ℕ) → a < accountCount → usedOk (bookRecord a book) ≡ true
+  pub picking : (book : List ℕ) (hs : List (Step Call Question)) (a : ℕ) → a < accountCount → usedOk (bookRecord a book) ≡ true
       → numberOf (step book (after centre book fresh hs) (of a pick) .answer) ≡ 9 → ⊥

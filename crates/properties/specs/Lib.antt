@@ -3,3 +3,4 @@ pub mod Longest
 pub mod Property2
 pub mod Property3
 pub mod Healthy
+pub mod NoneLost

@@ -1,8 +1,9 @@
 -- Requests are read and responses written octet for octet as defined; session states and effects are those of that definition too (the second
--- property). The definition is `step` of crate centre. That each public operation follows it is the contract of its code: taking octets and
--- an outcome say `takes .. ≡ step ..` and `reports .. ≡ step ..`, a pick gives number, place and record of its step's answer, opening and closing say
--- what is `step` by the lines here. The others say that such a contract allows one result only, so the definition alone decides; of a contract that
--- names its result, `r ≡ ..`, that goes without saying, and of a returned part it is `one-part` of crate octets.
+-- property). The definition is `step` of crate centre. That each public operation follows it is the contract of its code: taking octets, writing a
+-- receipt and an outcome say `takes .. ≡ step ..`, `delivers .. ≡ step ..` and `reports .. ≡ step ..`; a pick gives number, place and record of its
+-- step's answer; opening and closing say what is `step` by the lines here. Here is also that a pick changes nothing and a receipt no stored message,
+-- and that such contracts allow one result only, so that the definition alone decides; of a contract that names its result, `r ≡ ..`, that goes
+-- without saying, and of a returned part it is `one-part` of crate octets.
 use Prim.Native.Nat.{ℕ, _<_}
 use mathlib.Core.Path.{_≡_}
 use mathlib.Core.List.{List}
@@ -12,15 +13,18 @@ use Rattle.store.specs.Places.{recordAt}
 use Rattle.session.specs.State.{opened, closed}
 use Rattle.session.specs.State as S
 use Rattle.session.specs.declared.State.{State}
-use Rattle.isolation.specs.Platform.{tableSize, partOf, World, fresh, opens, closes, of}
-use Rattle.answers.specs.Answer.{pick, Answer, numbered, taken, picked}
-use Rattle.centre.specs.Centre.{step, world, moves, takes, reports}
+use Rattle.isolation.specs.Platform.{tableSize, partOf, World, fresh, opens, closes, on, of}
+use Rattle.answers.specs.Answer.{Delivery, delivering, pick, Answer, numbered, taken, delivered, picked}
+use Rattle.centre.specs.Centre.{step, world, moves, takes, delivers, reports}
 use Rattle.answers.specs.Reply.{wrote}
 use Rattle.submit.specs.Submit.{gave}
 use Rattle.account.specs.Cancel.{changed}
 use Rattle.account.specs.Outcome.{told}
 use Rattle.open.specs.Open.{answers}
-use Rattle.bound.specs.Bound.{acts}
+use Rattle.receipts.specs.Offer.{offers}
+use Rattle.receipts.specs.Settle.{settling}
+use Rattle.bound.specs.Bound.{acts, handles}
+use Rattle.centre.specs.Operations.{noting}
 use Rattle.centre.specs.Pick.{placed}
 use Rattle.centre.specs.declared.operations.Placed.{Placed}
 
@@ -28,6 +32,7 @@ use Rattle.centre.specs.declared.operations.Placed.{Placed}
 abbrev pub Picked : List ℕ → Answer → Type 0
 Picked part (numbered n) = n ≡ 0 → ⊥
 Picked part (taken n consumed written space) = ⊥
+Picked part (delivered n written space) = ⊥
 Picked part (picked k r) = (k < places) × (r ≡ recordAt k part)
 
 -- a shape that gathers what leaves a call (a result, the state, what was lent) leaves nothing out: of two results that one contract allows, each
@@ -47,16 +52,24 @@ pub record Property2 : Type 0 where
   -- a pick changes nothing
   pub picking : (book : List ℕ) (w : World) (a : ℕ) → (let r = step book w (of a pick) in
       (r .world ≡ w) × Picked (partOf a (w .table)) (r .answer))
-  -- one result only, of the public operations: opening and closing, taken octets, an outcome
+  -- a receipt that is written changes no stored message and no last id
+  pub delivering : (book : List ℕ) (w : World) (s : ℕ) (y : Delivery) → (let r = step book w (on s (delivering y)) in
+      (r .world .table ≡ w .table) × (r .world .state .lasts ≡ w .state .lasts))
+  -- one result only, of the public operations: opening and closing, taken octets, a receipt, an outcome
   pub moved : Tells moves
   pub taken : TellsOfThree takes
+  pub delivered : TellsOfThree delivers
   pub reported : TellsOfThree reports
-  -- and inside: replies, submissions, other changes of an account, outcomes, octets on an open and on a bound session
+  -- and inside: replies, submissions, other changes of an account, outcomes, receipts written and settled, octets on an open and on a bound session
   pub wrote : Tells wrote
   pub gave : Tells gave
   pub changed : Tells changed
   pub told : Tells told
+  pub noted : Tells noting
+  pub offers : Tells offers
+  pub settling : Tells settling
   pub answers : Tells answers
   pub acts : TellsOfThree acts
+  pub handles : TellsOfThree handles
   -- which place is picked
   pub placed : (part : List ℕ) (r r′ : Placed) → placed r part ≡ placed r′ part → r ≡ r′

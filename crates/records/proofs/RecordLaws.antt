@@ -1,25 +1,23 @@
 -- What the state octet tells of a record, and the callback address of a book record. Assumes nothing.
 use mathlib.Core.Path.{_≡_, refl, sym}
-use mathlib.Core.Bool.{Bool, true, false, not, _&&_, _||_}
+use mathlib.Core.Bool.{Bool, true, false, not, _&&_}
 use mathlib.Core.List.{List, [], _∷_}
-use Prim.Native.Nat.{ℕ, zero, suc, _<_}
+use Prim.Native.Nat.{ℕ, zero, suc, _≤_, _<_}
+use native.Mathlib.Omega.{arith}
 use lib.ListN.{length, take, drop, getD}
 use lib.Dec.{eqb}
 use borrow.Author.Tests.{eqb-true}
 use Rattle.octets.specs.Choice.{if_then_else_}
 use Rattle.octets.specs.Stretch.{every, isZero, zeros, part}
-use Rattle.octets.proofs.StretchLaws.{and-left, and-right, and-both, and-false, every-at}
+use Rattle.octets.proofs.StretchLaws.{and-left, and-right, and-both, and-false, or-false, every-at}
 use Rattle.forms.specs.Class.{lead}
+use Rattle.forms.proofs.ClassLaws.{within-high}
 use Rattle.forms.specs.declared.text.Form.the-variants.{Digits}
 use Rattle.forms.specs.Text.{formed}
 use Rattle.forms.specs.Field.{textOf, isField}
 use Rattle.records.specs.Layout.{stateOf}
 use Rattle.records.specs.Record.{messageOk, recordOk}
 use Rattle.records.specs.Book.{bookOk, usedOk}
-
-or-false : (b : Bool) → (b || false) ≡ b
-or-false true = refl
-or-false false = refl
 
 -- of state 0: all zero or ill formed
 pub record-empty : (last : ℕ) (r : List ℕ) → stateOf r ≡ 0 → zeros r ≡ recordOk last r
@@ -37,6 +35,23 @@ zeros-not r h ne = by (zeros r) refl
 pub record-message : (last : ℕ) (r : List ℕ) → 0 < length r → (stateOf r ≡ 0 → ⊥) → messageOk last r ≡ recordOk last r
 unfolding recordOk
 record-message last r h ne = rw (zeros-not r h ne)
+
+-- all zero: of state 0
+pub zeros-state : (r : List ℕ) → zeros r ≡ true → stateOf r ≡ 0
+unfolding every
+zeros-state [] h = refl
+zeros-state (x ∷ xs) h = eqb-true x 0 (and-left _ _ h)
+
+-- no state is above 5
+pub record-state : (last : ℕ) (r : List ℕ) → recordOk last r ≡ true → stateOf r ≤ 5
+unfolding recordOk messageOk
+record-state last r h = by (zeros r) refl
+  where
+    by : (t : Bool) → zeros r ≡ t → stateOf r ≤ 5
+    by true e = omega (arith, zeros-state r e)
+    by false e =
+        let m : messageOk last r ≡ true = (rw e at h) in
+        within-high 1 5 (stateOf r) (and-left _ _ (and-left _ _ (and-left _ _ (and-left _ _ (and-left _ _ m)))))
 
 -- ---- zeros in zeros
 

@@ -24,9 +24,31 @@ accountCount = 8
 abbrev pub tableSize : ℕ
 tableSize = partSize * accountCount
 
+-- where the fields start that are written by themselves
+abbrev pub stateAt : ℕ
+stateAt = 0
+
+abbrev pub scheduleAt : ℕ
+scheduleAt = 57
+
+abbrev pub validityAt : ℕ
+validityAt = 73
+
+abbrev pub registeredAt : ℕ
+registeredAt = 89
+
+abbrev pub defaultAt : ℕ
+defaultAt = 91
+
+abbrev pub dateAt : ℕ
+dateAt = 233
+
+abbrev pub markAt : ℕ
+markAt = 250
+
 -- 0 empty, 1 waiting, 2 delivered, 3 expired, 4 deleted, 5 undeliverable
 abbrev pub stateOf : List ℕ → ℕ
-stateOf r = getD r 0 0
+stateOf r = getD r stateAt 0
 
 -- 1-4: id, most significant octet first
 abbrev pub idOf : List ℕ → ℕ
@@ -49,17 +71,17 @@ priorityOf r = getD r 56 0
 
 -- 57-72, 73-88: schedule time, validity time
 abbrev pub scheduleOf : List ℕ → List ℕ
-scheduleOf r = part 57 timeLength r
+scheduleOf r = part scheduleAt timeLength r
 
 abbrev pub validityOf : List ℕ → List ℕ
-validityOf r = part 73 timeLength r
+validityOf r = part validityAt timeLength r
 
 -- 89, 90, 91: registered flag, data coding, default message id
 abbrev pub registeredOf : List ℕ → ℕ
-registeredOf r = getD r 89 0
+registeredOf r = getD r registeredAt 0
 
 abbrev pub defaultOf : List ℕ → ℕ
-defaultOf r = getD r 91 0
+defaultOf r = getD r defaultAt 0
 
 -- 92, 93-232: length, text
 abbrev pub lengthOf : List ℕ → ℕ
@@ -68,12 +90,15 @@ lengthOf r = getD r 92 0
 abbrev pub textFieldOf : List ℕ → List ℕ
 textFieldOf r = part 93 longestText r
 
--- 233-248, 249, 250-255: final date, error code, zero
+-- 233-248, 249, 250, 251-255: final date, error code, mark (document 02, 1), zero
 abbrev pub dateOf : List ℕ → List ℕ
-dateOf r = part 233 timeLength r
+dateOf r = part dateAt timeLength r
 
 abbrev pub errorOf : List ℕ → ℕ
 errorOf r = getD r 249 0
 
+abbrev pub markOf : List ℕ → ℕ
+markOf r = getD r markAt 0
+
 abbrev pub spareOf : List ℕ → List ℕ
-spareOf r = part 250 6 r
+spareOf r = part 251 5 r

@@ -1,4 +1,4 @@
--- When a message record is well formed (document 01, "The account book and the table").
+-- When a message record is well formed (document 01, "The account book and the table"; document 02, 1).
 use Prim.Native.Nat.{ℕ}
 use mathlib.Core.Bool.{Bool, not, _&&_, _||_}
 use mathlib.Core.List.{List}
@@ -11,7 +11,7 @@ use Rattle.forms.specs.Text.{longestText}
 use Rattle.forms.specs.Field.{isField}
 use Rattle.forms.specs.Time.{storedTime}
 use Rattle.forms.specs.declared.text.Form.the-variants.{Ascii, Address}
-use Rattle.records.specs.Layout.{stateOf, idOf, sourceOf, destinationOf, serviceOf, priorityOf, scheduleOf, validityOf, registeredOf, defaultOf, lengthOf, textFieldOf, dateOf, errorOf, spareOf}
+use Rattle.records.specs.Layout.{stateOf, idOf, sourceOf, destinationOf, serviceOf, priorityOf, scheduleOf, validityOf, registeredOf, defaultOf, lengthOf, textFieldOf, dateOf, errorOf, markOf, spareOf}
 
 -- an address that is given: ton and npi take any value
 abbrev pub addressOk : List ℕ → Bool
@@ -47,13 +47,22 @@ endOk r =
     (if eqb (stateOf r) 1 then zeros (dateOf r) else storedTime (dateOf r))
     && (eqb (errorOf r) 0 || not (eqb (stateOf r) 1 || eqb (stateOf r) 4))
 
--- state 1 to 5, id in 1..last, and octets 250-255 zero
+-- a receipt is owed for the record
+abbrev pub marked : List ℕ → Bool
+marked r = eqb (markOf r) 1
+
+-- the mark is 1 or 0, and 0 where the record is unregistered or waiting
+unfoldable pub markOk : List ℕ → Bool
+markOk r = eqb (markOf r) 0 || (marked r && eqb (registeredOf r) 1 && within 2 5 (stateOf r))
+
+-- state 1 to 5, id in 1..last, and octets 251-255 zero
 unfoldable pub messageOk : ℕ → List ℕ → Bool
 messageOk last r =
     within 1 5 (stateOf r)
     && within 1 last (idOf r)
     && fieldsOk r
     && endOk r
+    && markOk r
     && zeros (spareOf r)
 
 unfoldable pub recordOk : ℕ → List ℕ → Bool

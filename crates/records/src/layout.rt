@@ -29,7 +29,9 @@ pub const FINAL_DATE: usize = 233;
 
 pub const ERROR_CODE: usize = 249;
 
-pub const SPARE: usize = 250;
+pub const MARK: usize = 250;
+
+pub const SPARE: usize = 251;
 
 pub const RECORD_SIZE: usize = 256;
 

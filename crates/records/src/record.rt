@@ -8,7 +8,7 @@ ghost use lib.ListN.{length};
 ghost use Rattle.forms.specs.Class.{within};
 ghost use Rattle.forms.specs.Field.{addressSize};
 ghost use Rattle.records.specs.Layout.{recordSize};
-ghost use Rattle.records.specs.Record.{addressOk, timeOk, textOk, fieldsOk, endOk, messageOk, recordOk};
+ghost use Rattle.records.specs.Record.{addressOk, timeOk, textOk, fieldsOk, endOk, markOk, messageOk, recordOk};
 
 fn is_within(low: u32, high: u32, x: u32) -> bool
     ensures { λ r. ⌜ r ≡ within low high x ⌝ }
@@ -16,10 +16,15 @@ fn is_within(low: u32, high: u32, x: u32) -> bool
     (low <= x) & (x <= high)
 }
 
+// Most messages have no times: then the longer test is spared.
 fn is_time_ok(t: &[u8]) -> bool
     ensures { λ r. ⌜ r ≡ timeOk (now (t .entry)) ⌝ }
 {
-    octets::stretch::all_zero(t) | forms::time::is_stored_time(t)
+    if octets::stretch::all_zero(t) {
+        true
+    } else {
+        forms::time::is_stored_time(t)
+    }
 }
 
 fn is_address_ok(address: &[u8]) -> bool
@@ -69,6 +74,16 @@ fn is_end_ok(r: &[u8]) -> bool
     }
 }
 
+// The mark says that a receipt is owed: for a registered message that is no longer waiting.
+fn is_mark_ok(r: &[u8]) -> bool
+    requires { ⌜ length (now r) ≡ recordSize ⌝ }
+    ensures { λ ok. ⌜ ok ≡ markOk (now (r .entry)) ⌝ }
+{
+    let mark = r[layout::MARK];
+    let state = octets::number::wide(r[layout::STATE]);
+    (mark == 0) | ((mark == 1) & (r[layout::REGISTERED] == 1) & is_within(2, 5, state))
+}
+
 fn is_message_ok(last: u32, r: &[u8]) -> bool
     requires { ⌜ length (now r) ≡ recordSize ⌝ }
     ensures { λ ok. ⌜ ok ≡ messageOk last (now (r .entry)) ⌝ }
@@ -77,6 +92,7 @@ fn is_message_ok(last: u32, r: &[u8]) -> bool
         & is_within(1, last, octets::number::number_at(r, layout::ID))
         & are_fields_ok(r)
         & is_end_ok(r)
+        & is_mark_ok(r)
         & octets::stretch::all_zero(&r[layout::SPARE..layout::RECORD_SIZE])
 }
 

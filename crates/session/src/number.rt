@@ -22,3 +22,7 @@ pub const ACCOUNT_ILL_FORMED: u8 = 9;
 pub const NOT_WAITING: u8 = 10;
 
 pub const NOTHING_WAITING: u8 = 11;
+
+pub const NO_RECEIVER: u8 = 12;
+
+pub const NOTHING_OWED: u8 = 13;

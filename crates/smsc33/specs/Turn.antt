@@ -6,7 +6,7 @@ use mathlib.Core.List.{List, []}
 use lib.ListN.{length, take, replicate}
 use Rattle.answers.specs.Reply.{spaceNeeded}
 use Rattle.isolation.specs.Platform.{World, Step, Ran}
-use Rattle.answers.specs.Answer.{Answer}
+use Rattle.answers.specs.Answer.{Answer, Call}
 use Rattle.answers.specs.Answer as A
 use Rattle.centre.specs.Centre.{step, world}
 use Rattle.lines.specs.Record.{sessionOf, stampOf, payloadOf, accountOf, outcomeOf, orderOf}
@@ -25,6 +25,7 @@ pub record Told : Type 0 where
 abbrev pub lineOf : Answer → List ℕ
 lineOf (A.numbered n) = line n 0 []
 lineOf (A.taken n consumed written space) = line n consumed (take written space)
+lineOf (A.delivered n written space) = line n 0 (take written space)
 lineOf (A.picked k r) = line 0 0 []
 
 abbrev pub answered : Ran Answer → Told
@@ -40,7 +41,7 @@ zeroSpace = replicate spaceNeeded 0
 abbrev pub ordered : Order → List ℕ → World → List ℕ → Told
 ordered Open book w r = answered (step book w (Step.opens (sessionOf r)))
 ordered Octets book w r =
-    answered (step book w (Step.on (sessionOf r) (record { octets = payloadOf r; stamp = stampOf r; space = zeroSpace })))
+    answered (step book w (Step.on (sessionOf r) (Call.taking (record { octets = payloadOf r; stamp = stampOf r; space = zeroSpace }))))
 ordered Close book w r = answered (step book w (Step.closes (sessionOf r)))
 ordered Outcome book w r = answered (step book w (Step.of (accountOf r) (A.outcome (outcomeOf r))))
 ordered Bad book w r = stopped w

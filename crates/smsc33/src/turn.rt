@@ -9,7 +9,7 @@ ghost use Prim.Native.Nat.{ℕ};
 ghost use mathlib.Core.List.{List};
 ghost use lib.ListN.{length};
 ghost use Rattle.isolation.specs.Platform.{Step};
-ghost use Rattle.answers.specs.Answer.{Question};
+ghost use Rattle.answers.specs.Answer.{Call, Question};
 ghost use Rattle.centre.specs.Centre.{step, world};
 ghost use Rattle.lines.specs.Line.{lineRoom};
 ghost use Rattle.lines.specs.Record.{recordSize, outcomeOf, accountOf};
@@ -60,7 +60,7 @@ fn take(
     text: &mut [u8],
 ) -> Turned
     requires { ⌜ length (now text) ≡ lineRoom ⌝ }
-    ensures { λ r. ⌜ (turned r (now (table .exit)) (now (text .exit)) ≡ answered (step (now (book .entry)) (world state (now (table .entry))) (Step.on session (record { octets = now (octets .entry); stamp = now (stamp .entry); space = zeroSpace })))) × Fits r (now (text .exit)) ⌝ }
+    ensures { λ r. ⌜ (turned r (now (table .exit)) (now (text .exit)) ≡ answered (step (now (book .entry)) (world state (now (table .entry))) (Step.on session (Call.taking (record { octets = now (octets .entry); stamp = now (stamp .entry); space = zeroSpace }))))) × Fits r (now (text .exit)) ⌝ }
 {
     let mut space = [0u8; reply::SPACE_NEEDED];
     let took = centre::take::take(book, table, state, session, octets, stamp, &mut space);

@@ -1,4 +1,4 @@
--- What is looked for in an account's sixteen places (document 01, "Effects").
+-- What is looked for in an account's sixteen places (document 01, "Effects"; document 02, 1).
 use Prim.Native.Nat.{ℕ, _+_}
 use mathlib.Core.Bool.{Bool, not, _&&_}
 use mathlib.Core.List.{List}
@@ -7,6 +7,8 @@ use Rattle.octets.specs.Choice.{if_then_else_}
 use Rattle.forms.specs.Class.{within}
 use Rattle.records.specs.Layout.{accountCount, stateOf, idOf, sourceOf, destinationOf, priorityOf}
 use Rattle.octets.specs.Rows.{rows}
+use Rattle.octets.specs.Stretch.{among}
+use Rattle.records.specs.Record.{marked}
 use Rattle.records.specs.Book.{bookRecordSize, sameAddress, named}
 use Rattle.store.specs.Places.{records, lowest}
 use Rattle.store.specs.declared.places.Found.{Found}
@@ -20,9 +22,13 @@ isEmpty r = eqb (stateOf r) 0
 abbrev pub waiting : List ℕ → Bool
 waiting r = eqb (stateOf r) 1
 
--- a record in state 2 to 5 may be overwritten
+-- a record in state 2 to 5 may be overwritten, unless a receipt is owed for it
 abbrev pub overwritable : List ℕ → Bool
-overwritable r = within 2 5 (stateOf r)
+overwritable r = within 2 5 (stateOf r) && not (marked r)
+
+-- a receipt is owed for it, and its id is none of these, which are outstanding
+abbrev pub owed : List ℕ → List ℕ → Bool
+owed ids r = marked r && not (among (idOf r) ids)
 
 abbrev pub hasId : ℕ → List ℕ → Bool
 hasId id r = not (isEmpty r) && eqb (idOf r) id
@@ -48,7 +54,7 @@ pairPlace source destination xs = lowest (λ r. waiting r && between source dest
 abbrev pub emptyPlace : List ℕ → Found
 emptyPlace xs = lowest isEmpty (λ r. 0) (records xs)
 
--- the lowest-id record in state 2 to 5
+-- the lowest-id record in state 2 to 5 that may be overwritten
 abbrev pub finishedPlace : List ℕ → Found
 finishedPlace xs = lowest overwritable idOf (records xs)
 
@@ -56,13 +62,17 @@ unfoldable pub orElse : Found → Found → Found
 orElse (At k) other = At k
 orElse Nowhere other = other
 
--- the lowest empty place, else the lowest-id record in state 2 to 5
+-- the lowest empty place, else the lowest-id record in state 2 to 5 that may be overwritten
 abbrev pub newPlace : List ℕ → Found
 newPlace xs = orElse (emptyPlace xs) (finishedPlace xs)
 
 -- the next to pick
 abbrev pub nextPlace : List ℕ → Found
 nextPlace xs = lowest waiting turn (records xs)
+
+-- the lowest id owed, those outstanding passed over
+abbrev pub owedPlace : List ℕ → List ℕ → Found
+owedPlace ids xs = lowest (owed ids) idOf (records xs)
 
 -- the lowest used, well-formed book record with equal system_id and system_type
 abbrev pub namedPlace : List ℕ → List ℕ → List ℕ → Found

@@ -8,12 +8,13 @@ ghost use mathlib.Core.Path.{_≡_};
 ghost use mathlib.Core.Bool.{_&&_};
 ghost use Prim.Native.Nat.{_<_};
 ghost use lib.ListN.{length};
-ghost use Rattle.records.specs.Layout.{recordSize, places, partSize, accountCount};
+ghost use Rattle.octets.specs.Stretch.{among};
+ghost use Rattle.records.specs.Layout.{recordSize, places, partSize, accountCount, idOf};
 ghost use Rattle.store.specs.Places.{records, recordAt, Below, OnePlace, keep, lowest};
 ghost use Rattle.records.specs.Book.{bookRecordSize, bookSize, named};
-ghost use Rattle.store.specs.Search.{waiting, between, turn, placeOf, pairPlace, newPlace, nextPlace, namedPlace, passes, rankOf};
+ghost use Rattle.store.specs.Search.{waiting, between, turn, placeOf, pairPlace, newPlace, nextPlace, owed, owedPlace, namedPlace, passes, rankOf};
 
-// What a record must be, to be looked at: of an id; waiting between two addresses; empty; finished; waiting.
+// What a record must be, to be looked at: of an id; waiting between two addresses; empty; finished and owed no receipt; waiting.
 pub enum Search {
     Id(u32),
     Pair,
@@ -51,7 +52,7 @@ fn is_passing(r: &[u8], search: Search, source: &[u8], destination: &[u8]) -> bo
         Search::Id(id) => (state != 0) & (octets::number::number_at(r, layout::ID) == id),
         Search::Pair => is_pair(r, source, destination),
         Search::Empty => state == 0,
-        Search::Finished => (2 <= state) & (state <= 5),
+        Search::Finished => (2 <= state) & (state <= 5) & !(r[layout::MARK] == 1),
         Search::Ready => state == 1,
     }
 }
@@ -149,6 +150,59 @@ pub fn find_next(part: &[u8]) -> Found
     ensures { λ x. ⌜ (x ≡ nextPlace (now (part .entry))) × OnePlace x ⌝ }
 {
     lowest_of(part, Search::Ready, b"", b"")
+}
+
+fn is_among(id: u32, ids: &[u32]) -> bool
+    ensures { λ r. ⌜ r ≡ among id (now (ids .entry)) ⌝ }
+{
+    let mut found = false;
+    let mut i = 0;
+    while i < ids.len() {
+        found = found | (id == ids[i]);
+        i += 1;
+    }
+    found
+}
+
+fn is_owed(r: &[u8], ids: &[u32]) -> bool
+    requires { ⌜ length (now r) ≡ recordSize ⌝ }
+    ensures { λ x. ⌜ x ≡ owed (now (ids .entry)) (now (r .entry)) ⌝ }
+{
+    if r[layout::MARK] == 1 {
+        !is_among(octets::number::number_at(r, layout::ID), ids)
+    } else {
+        false
+    }
+}
+
+fn better_owed(best: Best, k: usize, r: &[u8], ids: &[u32]) -> Best
+    requires { ⌜ length (now r) ≡ recordSize ⌝ }
+    ensures { λ x. ⌜ x ≡ keep (owed (now (ids .entry))) idOf best k (now (r .entry)) ⌝ }
+{
+    let rank = octets::number::number_at(r, layout::ID) as u64;
+    if is_owed(r, ids) & (!best.found | (rank < best.rank)) {
+        Best {
+            found: true,
+            rank,
+            place: k,
+        }
+    } else {
+        best
+    }
+}
+
+// The next receipt to write: none whose id is one of these.
+pub fn find_owed(part: &[u8], ids: &[u32]) -> Found
+    requires { ⌜ length (now part) ≡ partSize ⌝ }
+    ensures { λ x. ⌜ (x ≡ owedPlace (now (ids .entry)) (now (part .entry))) × OnePlace x ⌝ }
+{
+    let mut best = Best::none();
+    let mut k = 0;
+    while k < layout::PLACES {
+        best = better_owed(best, k, places::record_at(part, k), ids);
+        k += 1;
+    }
+    best.found_at()
 }
 
 fn better_named(best: Best, a: usize, b: &[u8], system: &[u8], kind: &[u8]) -> Best

@@ -50,8 +50,8 @@ fieldsOf source s =
       default = s .default;
     }
 
--- a new id, last plus 1, goes into the lowest empty place, else over the lowest-id record in state 2 to 5. Last id 0xFFFFFFFF: status 8.
--- Then sixteen waiting: 20. Neither issues an id
+-- a new id, last plus 1, goes into the lowest empty place, else over the lowest-id record in state 2 to 5 that may be overwritten. Last id
+-- 0xFFFFFFFF: status 8. Then no empty and no overwritable place (document 02, 1): 20. Neither issues an id
 unfoldable pub added : List ℕ → Submit → List ℕ → List ℕ → ℕ → Submitted
 added source s body part last =
     if eqb last 0xFFFFFFFF then refused systemError part last

@@ -20,10 +20,10 @@ use Rattle.requests.specs.Replace.{replaceOf}
 use Rattle.requests.specs.Plain.{plainOf}
 use Rattle.store.specs.Account.{apart, placesOk, accountOk}
 use Rattle.records.specs.Book.{bookOk, usedOk, sameName, sameAddress, named, passwordIs}
-use Rattle.changes.specs.Change.{newRecord, finished, retexted, corrected}
+use Rattle.changes.specs.Change.{newRecord, finished, unmarked, retexted, corrected}
 use Rattle.store.specs.Places as Places
 use Rattle.store.specs.Places.{keep, lowest, onPlaces}
-use Rattle.records.specs.Record.{textOk, fieldsOk, endOk, messageOk, recordOk}
+use Rattle.records.specs.Record.{textOk, fieldsOk, endOk, markOk, messageOk, recordOk}
 use Rattle.store.specs.Search.{orElse}
 use Rattle.source.specs.Source.{sourceFor, known}
 use Rattle.submit.specs.Submit.{added, stored, submitted}
@@ -31,13 +31,16 @@ use Rattle.account.specs.Query.{lookedUp, queried}
 use Rattle.account.specs.Cancel.{cancellable, cancelledOne, deletedIf, cancelledAll, cancelled}
 use Rattle.account.specs.Replace.{replacedIn, replaced}
 use Rattle.account.specs.Outcome.{reported}
-use Rattle.session.specs.State.{opened, closed}
+use Rattle.session.specs.State.{granting, opened, closed}
+use Rattle.receipts.specs.DeliverSm.{receiptText, sentAddress, deliverBody}
+use Rattle.receipts.specs.Offer.{sent, offered}
+use Rattle.receipts.specs.Settle.{acknowledged, settled}
 use Rattle.isolation.specs.Platform.{fresh, step}
 use Rattle.open.specs.Open.{bindTo, openBind, onOpen}
-use Rattle.bound.specs.Bound.{submitTurn, queryTurn, cancelTurn, replaceTurn, unbindTurn, replying, onBound}
-use Rattle.centre.specs.Operations.{onOutcome, onPick}
-use Rattle.centre.specs.Centre.{octetsEarly, outcomeEarly, pickEarly, act}
+use Rattle.bound.specs.Bound.{submitTurn, queryTurn, cancelTurn, replaceTurn, unbindTurn, replying, settledBy, onBound}
+use Rattle.centre.specs.Operations.{noted, pickedFrom}
+use Rattle.centre.specs.Centre.{octetsEarly, deliveryEarly, outcomeEarly, pickEarly, onOctets, onDelivery, act}
 
 unfoldable pub computed : Unit {0}
-unfolding if_then_else_ onto octets4 hexDigit hex8 rows patch same every lead textOf isField afterSpaces formed nibble messageId twoDigits isTime sentTime storedTime notBoth endOf octetAt textAt addressAt idAt timeAt spanAt shortAt frameOf commandOf headerOf header reply idText queryBody over bindOf submitOf queryOf cancelOf replaceOf plainOf apart placesOk accountOk bookOk usedOk sameName sameAddress named passwordIs newRecord finished retexted corrected Places.over keep lowest onPlaces textOk fieldsOk endOk messageOk recordOk orElse sourceFor known added stored submitted lookedUp queried cancellable cancelledOne deletedIf cancelledAll cancelled replacedIn replaced reported opened closed fresh step bindTo openBind onOpen submitTurn queryTurn cancelTurn replaceTurn unbindTurn replying onBound onOutcome onPick octetsEarly outcomeEarly pickEarly act
+unfolding if_then_else_ onto octets4 hexDigit hex8 rows patch same every lead textOf isField afterSpaces formed nibble messageId twoDigits isTime sentTime storedTime notBoth endOf octetAt textAt addressAt idAt timeAt spanAt shortAt frameOf commandOf headerOf header reply idText queryBody over bindOf submitOf queryOf cancelOf replaceOf plainOf apart placesOk accountOk bookOk usedOk sameName sameAddress named passwordIs newRecord finished unmarked retexted corrected Places.over keep lowest onPlaces textOk fieldsOk endOk markOk messageOk recordOk orElse sourceFor known added stored submitted lookedUp queried cancellable cancelledOne deletedIf cancelledAll cancelled replacedIn replaced reported granting opened closed receiptText sentAddress deliverBody sent offered acknowledged settled fresh step bindTo openBind onOpen submitTurn queryTurn cancelTurn replaceTurn unbindTurn replying settledBy onBound noted pickedFrom octetsEarly deliveryEarly outcomeEarly pickEarly onOctets onDelivery act
 computed = tt

@@ -12,13 +12,13 @@ use Rattle.wire.specs.Fields.{idAt}
 use Rattle.wire.specs.declared.fields.IdRead.{IdRead}
 use Rattle.answers.specs.Reply.{spaceNeeded}
 use Rattle.records.specs.Layout.{recordSize, places, accountCount}
-use Rattle.session.specs.State.{closedSession}
+use Rattle.session.specs.State.{closedSession, sessionWith}
 use Rattle.session.specs.declared.Entry.{Entry}
 use Rattle.session.specs.declared.Entry.the-variants.{Open, Transmitter, Ended}
 use Rattle.session.specs.declared.State.{State}
 use Rattle.isolation.specs.Platform.{World, Step, Ran, opens, fresh}
 use Rattle.isolation.specs.History.{after}
-use Rattle.answers.specs.Answer.{Octets, Question, Answer}
+use Rattle.answers.specs.Answer.{Call, Question, Answer}
 use Rattle.answers.specs.Answer as A
 use Rattle.centre.specs.Centre.{centre, step}
 use Rattle.twelve.specs.Computed.{computed}
@@ -66,7 +66,7 @@ pub data Name : Type 0 where
   P12 : Name
 
 pub data Case : Type 0 where
-  taking : (book : List ℕ) → World → Step Octets Question → Came → Case
+  taking : (book : List ℕ) → World → Step Call Question → Came → Case
   reading : List ℕ → IdRead → Case
 
 pub record Example : Type 0 where
@@ -99,10 +99,10 @@ bound = after centre twoAccounts fresh (opens 0 ∷ sends 0 (pdu 2 1 (bind pagin
 
 -- ---- what is to come
 
--- session 0 with this entry and the others closed, account 0 with this last id and the others with none
+-- session 0 with this entry and the others closed, no receipt outstanding; account 0 with this last id and the others with none
 abbrev pub stateWith : Entry → ℕ → State
 stateWith entry last =
-    record { sessions = record { entry = entry } ∷ replicate 15 closedSession; lasts = last ∷ replicate 7 0 }
+    record { sessions = sessionWith entry ∷ replicate 15 closedSession; lasts = last ∷ replicate 7 0 }
 
 -- number, consumed, written and the reply, the space behind it as it was
 abbrev pub answers : ℕ → ℕ → ℕ → List ℕ → Answer

@@ -3,3 +3,4 @@ pub mod Requests
 pub mod Examples
 pub mod Stored
 pub mod Rules
+pub mod Receipts

@@ -6,7 +6,7 @@ use Rattle.octets.specs.Number.{octets4}
 use Rattle.octets.specs.Stretch.{padded}
 use Rattle.isolation.specs.Platform.{Step, on}
 use Rattle.answers.specs.Reply.{spaceNeeded}
-use Rattle.answers.specs.Answer.{Octets, Question}
+use Rattle.answers.specs.Answer.{Call, taking, Question}
 
 -- numbers of four octets: of the requests alone, what is to come of them stands octet by octet
 abbrev pub words : List ℕ → List ℕ
@@ -102,5 +102,5 @@ query = 49 ∷ 0 ∷ 0 ∷ 0 ∷ 0 ∷ []
 abbrev pub space : List ℕ
 space = replicate spaceNeeded 0xEE
 
-abbrev pub sends : ℕ → List ℕ → Step Octets Question
-sends session given = on session (record { octets = given; stamp = stamp; space = space })
+abbrev pub sends : ℕ → List ℕ → Step Call Question
+sends session given = on session (taking (record { octets = given; stamp = stamp; space = space }))

@@ -9,7 +9,7 @@ use Rattle.store.specs.Places.{recordAt}
 use Rattle.session.specs.declared.Entry.the-variants.{Open, Transmitter}
 use Rattle.isolation.specs.Platform.{World, Step, of, partOf, tableSize}
 use Rattle.isolation.specs.History.{after}
-use Rattle.answers.specs.Answer.{Octets, Question, outcome, pick, Answer, pickedRecord}
+use Rattle.answers.specs.Answer.{Call, Question, outcome, pick, Answer, pickedRecord}
 use Rattle.centre.specs.Centre.{centre, step}
 use Rattle.twelve.specs.Computed.{computed}
 use Rattle.twelve.specs.Requests.{ended, paging, secret, vma, office, mobile, hello, stamp, entry, entryWith, twoAccounts, pdu, bind, address, emptyAddress, submissionWith, query, sends}
@@ -125,7 +125,7 @@ waitingRecord id destination text =
     (1 ∷ 0 ∷ 0 ∷ 0 ∷ id ∷ [])
     ++ ((1 ∷ 1 ∷ padded 20 office) ++ ((1 ∷ 1 ∷ padded 20 destination) ++ (replicate 43 0 ++ (padded 141 text ++ replicate 23 0))))
 
-abbrev pub outcomeOf : ℕ → ℕ → ℕ → Step Octets Question
+abbrev pub outcomeOf : ℕ → ℕ → ℕ → Step Call Question
 outcomeOf id state error = of 0 (outcome (record { stamp = stamp; id = id; state = state; error = error }))
 
 -- submit where no place is empty, 7 is undeliverable and 3 delivered: over the lowest-id record in state 2 to 5, every field written afresh
@@ -146,7 +146,7 @@ shorter-text = refl
 
 -- ---- a pick: priority 1 before priority 0, then the lowest id
 
-abbrev pub urgent : Step Octets Question
+abbrev pub urgent : Step Call Question
 urgent = sends 0 (pdu 4 1 (submissionWith emptyAddress (address mobile) 1 0 0 hi))
 
 pub urgent-first : take 5 (pickedRecord (step twoAccounts (after centre twoAccounts bound (submits 0 1 ∷ urgent ∷ urgent ∷ [])) (of 0 pick) .answer)) ≡ 1 ∷ 0 ∷ 0 ∷ 0 ∷ 2 ∷ []

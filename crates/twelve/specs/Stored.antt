@@ -9,14 +9,14 @@ use Rattle.store.specs.Places.{recordAt}
 use Rattle.session.specs.State.{lastAt}
 use Rattle.isolation.specs.Platform.{World, Step, opens, of, partOf}
 use Rattle.isolation.specs.History.{after}
-use Rattle.answers.specs.Answer.{Octets, Question, outcome, pick, numbered}
+use Rattle.answers.specs.Answer.{Call, Question, outcome, pick, numbered}
 use Rattle.centre.specs.Centre.{centre, step}
 use Rattle.twelve.specs.Computed.{computed}
 use Rattle.twelve.specs.Requests.{plant, other, office, mobile, hello, stamp, twoAccounts, pdu, bind, submission, query, sends}
 use Rattle.twelve.specs.Examples.{held, bound, answers}
 
 -- a submission with this sequence, on a session
-abbrev pub submits : ℕ → ℕ → Step Octets Question
+abbrev pub submits : ℕ → ℕ → Step Call Question
 submits session sequence = sends session (pdu 4 sequence submission)
 
 -- ---- the first accepted submit, P8

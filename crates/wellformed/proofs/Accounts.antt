@@ -1,37 +1,43 @@
 -- Each effect leaves a well-formed account well formed, with the last id that it gives back. A query changes nothing: it gives back neither a part
 -- nor a last id. Assumes nothing.
 use mathlib.Core.Path.{_≡_, refl, _∙_}
-use mathlib.Core.Bool.{Bool, true, false, _&&_, _||_}
+use mathlib.Core.Bool.{Bool, true, false, not, _&&_, _||_}
 use mathlib.Core.Logic.{_⊎_, inl, inr, ⊎-elim, ⊎-map}
 use mathlib.Core.List.{List}
 use Prim.Native.Nat.{ℕ, _+_, _≤_, _<_}
 use native.Mathlib.Omega.{arith}
 use lib.ListN.{length}
 use lib.Dec.{eqb}
-use borrow.Author.Tests.{eqb-true, ne-eqb}
+use borrow.Author.Tests.{eqb-true, eqb-false, ne-eqb, not-true}
 use Rattle.octets.proofs.StretchLaws.{and-left, and-right, if-cases}
+use Rattle.forms.specs.Class.{within}
 use Rattle.forms.specs.Time.{sentTime}
 use Rattle.forms.proofs.ClassLaws.{within-low}
 use Rattle.forms.specs.declared.text.MessageId.{MessageId}
 use Rattle.forms.specs.declared.text.MessageId.the-variants.{Empty, Number}
 use Rattle.wire.specs.Fields.{octetsOf}
+use Rattle.wire.specs.declared.frame.Header.{Header}
 use Rattle.records.specs.Layout.{recordSize, places, partSize, stateOf, idOf, sourceOf, destinationOf}
 use Rattle.records.specs.Book.{bookRecordSize, sameAddress}
+use Rattle.records.specs.Record.{marked, recordOk}
 use Rattle.store.specs.Places.{recordAt, onPlace, onPlaces}
 use Rattle.store.specs.Search.{waiting, between, overwritable, isEmpty, hasId, pairPlace, emptyPlace, finishedPlace, orElse, newPlace}
-use Rattle.changes.specs.Change.{finished, retexted, corrected}
+use Rattle.changes.specs.Change.{finished, unmarked, retexted, corrected}
 use Rattle.store.specs.Account.{accountOk}
 use Rattle.store.specs.declared.places.Found.{Found}
 use Rattle.store.specs.declared.places.Found.the-variants.{At, Nowhere}
+use Rattle.session.specs.declared.Receipt.{Receipt}
 use Rattle.source.specs.Source.{noAddress, known}
 use Rattle.submit.specs.Submit.{Submitted, submitted, toReplace}
 use Rattle.account.specs.Cancel.{Changed, deleted, deletedIf, cancellable, cancelled}
 use Rattle.account.specs.Replace.{correctionOf, replaced}
 use Rattle.account.specs.Outcome.{Reported, reported}
+use Rattle.receipts.specs.Settle.{Settled, acknowledged, settled}
 use Rattle.wellformed.specs.Effects.{submission, submitter, replacement, replacer, submittedRecord}
 use Rattle.wellformed.specs.Good.{Good, GoodPart}
-use Rattle.wellformed.proofs.Cases.{submitted-cases, cancelled-cases, replaced-cases, reported-cases}
-use Rattle.wellformed.proofs.Changes.{finished-length, finished-id, finished-good, retexted-length, retexted-id, retexted-good, corrected-length, corrected-id, corrected-good}
+use Rattle.wellformed.proofs.Cases.{submitted-cases, cancelled-cases, replaced-cases, reported-cases, acknowledged-cases, settled-cases}
+use Rattle.wellformed.proofs.Changes.{finished-length, finished-id, finished-good, unmarked-length, unmarked-id, unmarked-good, retexted-length, retexted-id, retexted-good, corrected-length, corrected-id, corrected-good}
+use Rattle.wellformed.proofs.GoodIs.{both, record-good, unfinished-unmarked}
 use Rattle.wellformed.proofs.RulesHold.{submit-holds, replace-holds}
 use Rattle.wellformed.proofs.Submission.{span-length, submission-length, submission-id, submission-good}
 use Rattle.wellformed.proofs.PlacesKept.{record-length, onPlaces-each}
@@ -58,12 +64,17 @@ module _ (part : List ℕ) (k : ℕ) (e : newPlace part ≡ At k) where
   pub new-place : k < places
   new-place = ⊎-elim (found-place isEmpty (λ r. 0) part k) (found-place overwritable idOf part k) (either-place (emptyPlace part) (finishedPlace part) k e)
 
-  -- no waiting record is overwritten
-  pub new-place-free : waiting (recordAt k part) ≡ false
-  new-place-free =
-      ne-eqb (stateOf (recordAt k part)) 1 λ one.
-      ⊎-elim (λ h. omega (arith, eqb-true (stateOf (recordAt k part)) 0 (found-passes isEmpty (λ r. 0) part k h)))
-      (λ h. omega (arith, within-low 2 5 (stateOf (recordAt k part)) (found-passes overwritable idOf part k h)))
+  -- no waiting and no marked record is overwritten
+  pub new-place-free : (last : ℕ) → recordOk last (recordAt k part) ≡ true → (waiting (recordAt k part) ≡ false) × (marked (recordAt k part) ≡ false)
+  new-place-free last ok =
+      let r = recordAt k part in
+      ⊎-elim
+      (λ h.
+      let none = eqb-true (stateOf r) 0 (found-passes isEmpty (λ r. 0) part k h) in
+      (ne-eqb (stateOf r) 1 (omega arith), unfinished-unmarked last r ok (omega arith)))
+      (λ h.
+      let b = both (within 2 5 (stateOf r)) (not (marked r)) (found-passes overwritable idOf part k h) in
+      (ne-eqb (stateOf r) 1 (omega (arith, within-low 2 5 (stateOf r) (b .0))), not-true (marked r) (b .1)))
       (either-place (emptyPlace part) (finishedPlace part) k e)
 
 pub replace-place : (source body part : List ℕ) (k : ℕ) → toReplace source (submission body) part ≡ At k
@@ -74,7 +85,7 @@ replace-place source body part k e =
     if-cases (λ (x : Found). x ≡ At k → pairPlace source (submission body .destination .octets) part ≡ At k) (eqb (submission body .replace) 1) _ Nowhere (λ _ h. h) (λ _ h. never h) e in
     (found-place pair idOf part k found, and-left _ _ (found-passes pair idOf part k found))
 
-cancellable-waiting : (source destination r : List ℕ) → cancellable source destination r ≡ true → waiting r ≡ true
+pub cancellable-waiting : (source destination r : List ℕ) → cancellable source destination r ≡ true → waiting r ≡ true
 unfolding cancellable
 cancellable-waiting source destination r h =
     and-right (sameAddress (sourceOf r) source && (noAddress destination || sameAddress (destinationOf r) destination)) (waiting r) h
@@ -96,27 +107,28 @@ module _ (book part : List ℕ) (last : ℕ) (whole : length part ≡ partSize) 
   okay : (last′ : ℕ) (part′ : List ℕ) → GoodPart last′ part′ → Ok last′ part′
   okay last′ part′ g = good-account book last′ part′ (account-used book last part ok) g
 
-  -- the record at k, where it is waiting
-  module _ (k : ℕ) (h : k < places) (w : waiting (recordAt k part) ≡ true) where
+  -- a change of the message at k
+  module _ (k : ℕ) (h : k < places) where
     size : length (recordAt k part) ≡ recordSize
     size = record-length k part whole h
 
-    here : Good last (recordAt k part)
-    here = waiting-good last (recordAt k part) (good .each k h) w
+    here : waiting (recordAt k part) ≡ true → Good last (recordAt k part)
+    here w = waiting-good last (recordAt k part) (good .each k h) w
 
-    changed-ok : (f : List ℕ → List ℕ) → length (f (recordAt k part)) ≡ length (recordAt k part) → Good last (f (recordAt k part))
-        → idOf (f (recordAt k part)) ≡ idOf (recordAt k part) → Ok last (onPlace f k part)
-    changed-ok f l g e =
-        okay last (onPlace f k part) (one-follows last part good f k whole h (l ∙ size) (follows-good last (recordAt k part) (f (recordAt k part)) here g e))
+    changed-ok : (f : List ℕ → List ℕ) → length (f (recordAt k part)) ≡ length (recordAt k part) → Good last (recordAt k part)
+        → Good last (f (recordAt k part)) → idOf (f (recordAt k part)) ≡ idOf (recordAt k part) → Ok last (onPlace f k part)
+    changed-ok f l g g′ e =
+        okay last (onPlace f k part) (one-follows last part good f k whole h (l ∙ size) (follows-good last (recordAt k part) (f (recordAt k part)) g g′ e))
 
   module _ (stamp : List ℕ) (sent : sentTime stamp ≡ true) where
     finished-ok : (state error : ℕ) → 2 ≤ state → state ≤ 5 → (state ≡ 4 → error ≡ 0) → (k : ℕ) → k < places → waiting (recordAt k part) ≡ true
         → Ok last (onPlace (finished state error stamp) k part)
     finished-ok state error low high zero k h w =
         let r = recordAt k part in
-        changed-ok k h w (finished state error stamp) (finished-length state error stamp r)
-        (finished-good state error stamp r (size k h w) sent last (here k h w) low high zero)
-        (finished-id state error stamp r (size k h w) sent)
+        let g = here k h w in
+        changed-ok k h (finished state error stamp) (finished-length state error stamp r) g
+        (finished-good state error stamp r (size k h) sent last g low high zero)
+        (finished-id state error stamp r (size k h) sent)
 
     pub reported-ok : (id state error : ℕ) → 2 ≤ state → state ≤ 5 → (state ≡ 4 → ⊥) → accountOk book last (reported stamp id state error part .part) ≡ true
     reported-ok id state error low high ne =
@@ -157,10 +169,23 @@ module _ (book part : List ℕ) (last : ℕ) (whole : length part ≡ partSize) 
       let text = octetsOf (replacement body .text) body in
       let short : length text ≤ 140 = omega (arith, r .words .fits, span-length (replacement body .text) body) in
       let old = recordAt k part in
-      changed-ok k h w (corrected c text) (corrected-length c text old)
-      (corrected-good c text old (size k h w) short (r .schedule) (r .validity) last (here k h w) (r .registered) (r .words .defaultLow)
+      let g = here k h w in
+      changed-ok k h (corrected c text) (corrected-length c text old) g
+      (corrected-good c text old (size k h) short (r .schedule) (r .validity) last g w (r .registered) (r .words .defaultLow)
       (⊎-map (λ z. omega (arith, span-length (replacement body .text) body)) (λ z. z) (r .words .notBoth)))
-      (corrected-id c text old (size k h w) short (r .schedule) (r .validity))
+      (corrected-id c text old (size k h) short (r .schedule) (r .validity))
+
+  pub acknowledged-ok : (id : ℕ) → accountOk book last (acknowledged id part) ≡ true
+  acknowledged-ok id =
+      acknowledged-cases part (Ok last) ok id λ k e.
+      let h = found-place (hasId id) idOf part k e in
+      let r = recordAt k part in
+      let given = both _ _ (found-passes (hasId id) idOf part k e) .0 in
+      let g = record-good last r (good .each k h) (eqb-false (stateOf r) 0 (not-true (isEmpty r) given)) in
+      changed-ok k h unmarked (unmarked-length r) g (unmarked-good r (size k h) last g) (unmarked-id r)
+
+  pub settled-ok : (h : Header) (receipt : Receipt) → accountOk book last (settled h receipt part .part) ≡ true
+  settled-ok h receipt = settled-cases part (λ (r : Settled). Ok last (r .part)) h receipt ok ok (λ id _ _ _. acknowledged-ok id)
 
   pub submitted-ok : length book ≡ bookRecordSize → last ≤ 0xFFFFFFFF → (body : List ℕ)
       → accountOk book (submitted book body part last .last) (submitted book body part last .part) ≡ true
@@ -172,10 +197,11 @@ module _ (book part : List ℕ) (last : ℕ) (whole : length part ≡ partSize) 
       let text = octetsOf (submission body .text) body in
       let short : length text ≤ 140 = omega (arith, s .words .fits, span-length (submission body .text) body) in
       let old = recordAt k part in
-      changed-ok k (p .0) (p .1) (retexted (submission body .default) text) (retexted-length (submission body .default) text old)
-      (retexted-good (submission body .default) text old (size k (p .0) (p .1)) short last (here k (p .0) (p .1)) (s .words .defaultLow)
+      let g = here k (p .0) (p .1) in
+      changed-ok k (p .0) (retexted (submission body .default) text) (retexted-length (submission body .default) text old) g
+      (retexted-good (submission body .default) text old (size k (p .0)) short last g (p .1) (s .words .defaultLow)
       (⊎-map (λ z. omega (arith, span-length (submission body .text) body)) (λ z. z) (s .words .notBoth)))
-      (retexted-id (submission body .default) text old (size k (p .0) (p .1)) short))
+      (retexted-id (submission body .default) text old (size k (p .0)) short))
       (λ k _ given full e.
       let used = account-used book last part ok in
       okay (last + 1) _

@@ -1,5 +1,5 @@
 -- Each effect by cases: what holds of a refusal, which changes nothing, and of each change, holds of the effect. Assumes nothing.
-use mathlib.Core.Path.{_≡_, refl}
+use mathlib.Core.Path.{_≡_, refl, sym, ap}
 use mathlib.Core.Bool.{true, false, not, _&&_}
 use mathlib.Core.List.{List}
 use Prim.Native.Nat.{ℕ}
@@ -7,9 +7,11 @@ use native.Mathlib.Omega.{arith}
 use lib.Dec.{eqb}
 use borrow.Author.Tests.{eqb-true, eqb-false, not-true, not-false}
 use Rattle.octets.specs.Choice.{if_then_else_}
-use Rattle.octets.proofs.StretchLaws.{if-cases}
+use Rattle.octets.proofs.StretchLaws.{and-left, and-right, if-cases}
 use Rattle.forms.specs.declared.text.MessageId.{MessageId}
 use Rattle.forms.specs.declared.text.MessageId.the-variants.{Empty, Number}
+use Rattle.wire.specs.Command.{responseTo}
+use Rattle.wire.specs.declared.frame.Header.{Header}
 use Rattle.requests.specs.Submit.{submitOf}
 use Rattle.requests.specs.Cancel.{cancelOf}
 use Rattle.requests.specs.Replace.{replaceOf}
@@ -19,12 +21,16 @@ use Rattle.store.specs.Places.{recordAt, onPlaces, onFound}
 use Rattle.store.specs.Search.{waiting, placeOf, pairPlace, newPlace}
 use Rattle.store.specs.declared.places.Found.{Found}
 use Rattle.store.specs.declared.places.Found.the-variants.{At, Nowhere}
+use Rattle.session.specs.declared.Receipt.{Receipt}
+use Rattle.session.specs.declared.Receipt.the-variants.{None, Outstanding}
 use Rattle.source.specs.Source.{noAddress, known}
 use Rattle.submit.specs.Submit.{Submitted, refused, submitted, stored, added, toReplace}
 use Rattle.account.specs.Cancel.{Changed, changed, deletedIf, cancellable, cancelledBy, cancelledOne, cancelledAll, cancelled}
 use Rattle.account.specs.Replace.{replaced, replacedIn}
 use Rattle.account.specs.Outcome.{Reported, told, reported}
-use Rattle.wellformed.specs.Effects.{submission, submitter, retextedAt, addedAt, cancellation, canceller, deletedAt, deletedAll, replacement, replacer, correctedAt, finishedAt}
+use Rattle.receipts.specs.DeliverSm.{deliverId}
+use Rattle.receipts.specs.Settle.{Settled, settling, acknowledged, settled}
+use Rattle.wellformed.specs.Effects.{submission, submitter, retextedAt, addedAt, cancellation, canceller, deletedAt, deletedAll, replacement, replacer, correctedAt, finishedAt, unmarkedAt}
 
 -- a place that is looked for
 pub found-cases : {A : Type 0} (P : A → Type 0) (found : Found) (here : ℕ → A) (nowhere : A)
@@ -87,3 +93,24 @@ module _ (part : List ℕ) (P : Changed → Type 0) (refuses : (status : ℕ) �
   replaced-cases book body one =
       read-cases P (replaceOf body .status) _ _ (refuses _) λ _.
       found-cases P _ _ _ (λ k e. if-cases P _ _ _ (one k e) λ _. refuses 19 (omega arith)) λ _. refuses 12 (omega arith)
+
+module _ (part : List ℕ) where
+  pub acknowledged-cases : (P : List ℕ → Type 0) → P part → (id : ℕ) → ((k : ℕ) → placeOf id part ≡ At k → P (unmarkedAt part k))
+      → P (acknowledged id part)
+  unfolding acknowledged
+  acknowledged-cases P none id one = found-cases P _ _ _ one λ _. none
+
+  -- a response that settles nothing leaves all as it was, a receipt that is refused is owed again, and one that is accepted is acknowledged
+  pub settled-cases : (P : Settled → Type 0) (h : Header) (receipt : Receipt) → P (settling receipt part) → P (settling None part)
+      → ((id : ℕ) → receipt ≡ Outstanding id (h .sequence) → h .command ≡ responseTo deliverId → h .status ≡ 0 → P (settling None (acknowledged id part)))
+      → P (settled h receipt part)
+  unfolding settled
+  settled-cases P h None same owed accepted = same
+  settled-cases P h (Outstanding id sequence) same owed accepted =
+      let response = eqb (h .command) (responseTo deliverId) in
+      let expected = eqb (h .sequence) sequence in
+      if-cases P _ _ _
+      (λ t. if-cases (λ (p : List ℕ). P (settling None p)) _ _ _
+      (λ ok. accepted id (ap (Outstanding id) (sym (eqb-true _ _ (and-right response expected t)))) (eqb-true _ _ (and-left response expected t)) (eqb-true _ 0 ok))
+      (λ _. owed))
+      (λ _. same)

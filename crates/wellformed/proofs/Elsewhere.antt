@@ -12,7 +12,7 @@ use Rattle.wire.specs.Fields.{octetsOf}
 use Rattle.records.specs.Layout.{recordSize, places, partSize}
 use Rattle.store.specs.Places.{recordAt, onPlace}
 use Rattle.store.specs.Search.{waiting, between, placeOf, newPlace}
-use Rattle.changes.specs.Change.{finished, retexted, corrected}
+use Rattle.changes.specs.Change.{finished, unmarked, retexted, corrected}
 use Rattle.store.specs.declared.places.Found.{Found}
 use Rattle.store.specs.declared.places.Found.the-variants.{At}
 use Rattle.source.specs.Source.{known}
@@ -20,9 +20,10 @@ use Rattle.submit.specs.Submit.{Submitted, submitted, toReplace}
 use Rattle.account.specs.Cancel.{Changed, deleted, deletedIf, cancelled}
 use Rattle.account.specs.Replace.{correctionOf, replaced}
 use Rattle.account.specs.Outcome.{Reported, reported}
+use Rattle.receipts.specs.Settle.{acknowledged}
 use Rattle.wellformed.specs.Effects.{submission, submitter, submittedRecord, cancellation, canceller, replacement}
-use Rattle.wellformed.proofs.Cases.{submitted-cases, cancelled-cases, replaced-cases, reported-cases}
-use Rattle.wellformed.proofs.Changes.{finished-length, retexted-length, corrected-length}
+use Rattle.wellformed.proofs.Cases.{submitted-cases, cancelled-cases, replaced-cases, reported-cases, acknowledged-cases}
+use Rattle.wellformed.proofs.Changes.{finished-length, unmarked-length, retexted-length, corrected-length}
 use Rattle.wellformed.proofs.Submission.{submission-length}
 use Rattle.wellformed.proofs.PlacesKept.{record-within, onPlace-other, onPlaces-each}
 use Rattle.wellformed.proofs.Accounts.{deletedIf-length}
@@ -49,6 +50,11 @@ module _ (part : List ℕ) (j : ℕ) where
   reported-elsewhere stamp id state error ne =
       reported-cases stamp part (λ (r : Reported). Kept (r .part)) refl id state error λ k e _.
       elsewhere _ (finished state error stamp) k ne e (omega (arith, finished-length state error stamp (recordAt k part), record-within k part))
+
+  pub acknowledged-elsewhere : (id : ℕ) → (placeOf id part ≡ At j → ⊥) → recordAt j (acknowledged id part) ≡ recordAt j part
+  acknowledged-elsewhere id ne =
+      acknowledged-cases part Kept refl id λ k e.
+      elsewhere _ unmarked k ne e (omega (arith, unmarked-length (recordAt k part), record-within k part))
 
   pub replaced-elsewhere : (book body : List ℕ) → (known (replacement body .id) part ≡ At j → ⊥) → recordAt j (replaced book body part .part) ≡ recordAt j part
   replaced-elsewhere book body ne =

@@ -3,8 +3,9 @@ use mathlib.Core.Path.{_≡_, refl, sym, _∙_}
 use mathlib.Core.Bool.{Bool, true, false, not, _&&_, _||_, false≢true, or-true}
 use mathlib.Core.Logic.{_⊎_, inl, inr, ⊎-elim}
 use mathlib.Core.List.{List, [], _∷_}
-use Prim.Native.Nat.{ℕ, _≤_}
+use Prim.Native.Nat.{ℕ, zero, suc, _≤_}
 use native.Mathlib.Omega.{arith}
+use lib.ListN.{getD}
 use lib.Dec.{eqb, leb}
 use borrow.Author.Tests.{eqb-true, eqb-false, eq-eqb, ne-eqb, leb-true, le-leb}
 use Rattle.octets.specs.Choice.{if_then_else_}
@@ -13,9 +14,9 @@ use Rattle.octets.proofs.StretchLaws.{and-left, and-right, and-both, if-cases, 
 use Rattle.forms.specs.Class.{within}
 use Rattle.forms.specs.Time.{storedTime}
 use Rattle.forms.proofs.ClassLaws.{within-low, within-high}
-use Rattle.records.specs.Layout.{stateOf, idOf, dateOf, errorOf}
-use Rattle.records.specs.Record.{textOk, fieldsOk, endOk, messageOk, recordOk}
-use Rattle.wellformed.specs.Good.{GoodEnd, GoodWords, Good}
+use Rattle.records.specs.Layout.{stateOf, idOf, registeredOf, dateOf, errorOf, markOf}
+use Rattle.records.specs.Record.{textOk, fieldsOk, endOk, marked, markOk, messageOk, recordOk}
+use Rattle.wellformed.specs.Good.{GoodEnd, GoodMark, GoodWords, Good}
 
 pub or-either : (a b : Bool) → (a || b) ≡ true → (a ≡ true) ⊎ (b ≡ true)
 or-either true b h = inl refl
@@ -92,6 +93,36 @@ module _ (r : List ℕ) where
       by false true p q = or-one _ _ (inl (eq-eqb _ 0 (g .error (inr (eqb-true _ 4 q)))))
       by false false p q = or-true (eqb (errorOf r) 0)
 
+  pub no-mark : markOf r ≡ 0 → GoodMark r
+  no-mark e = record { bit = omega arith; unregistered = λ _. e; waiting = λ _. e }
+
+  mark-of : markOk r ≡ true → GoodMark r
+  unfolding markOk
+  mark-of h = ⊎-elim (λ e. no-mark (eqb-true (markOf r) 0 e)) owed (or-either _ _ h)
+    where
+      owed : (marked r && eqb (registeredOf r) 1 && within 2 5 (stateOf r)) ≡ true → GoodMark r
+      owed t =
+          let q = both _ _ t in
+          let p = both _ _ (q .0) in
+          let one = eqb-true (markOf r) 1 (p .0) in
+          let flag = eqb-true (registeredOf r) 1 (p .1) in
+          let final = within-low 2 5 (stateOf r) (q .1) in
+          record { bit = omega arith; unregistered = λ none. absurd (omega arith); waiting = λ still. absurd (omega arith) }
+
+  of-mark : registeredOf r ≤ 1 → GoodEnd r → GoodMark r → markOk r ≡ true
+  unfolding markOk
+  of-mark flag end g = by (eqb (markOf r) 0) refl
+    where
+      by : (t : Bool) → eqb (markOf r) 0 ≡ t → (t || (marked r && eqb (registeredOf r) 1 && within 2 5 (stateOf r))) ≡ true
+      by true e = refl
+      by false e =
+          let some = eqb-false (markOf r) 0 e in
+          let given : registeredOf r ≡ 0 → ⊥ = λ none. some (g .unregistered none) in
+          let done : stateOf r ≡ 1 → ⊥ = λ still. some (g .waiting still) in
+          and-both _ _
+          (and-both _ _ (eq-eqb (markOf r) 1 (omega (arith, g .bit))) (eq-eqb (registeredOf r) 1 (omega arith)))
+          (within-both 2 5 (stateOf r) (omega (arith, end .stateLow)) (end .stateHigh))
+
   pub good-of : (last : ℕ) → messageOk last r ≡ true → Good last r
   unfolding messageOk fieldsOk
   good-of last h =
@@ -99,7 +130,8 @@ module _ (r : List ℕ) where
       let b = both _ _ (a .0) in
       let c = both _ _ (b .0) in
       let d = both _ _ (c .0) in
-      let text = both _ _ (c .1) in
+      let e = both _ _ (d .0) in
+      let text = both _ _ (d .1) in
       let registered = both _ _ (text .0) in
       let validity = both _ _ (registered .0) in
       let schedule = both _ _ (validity .0) in
@@ -107,8 +139,8 @@ module _ (r : List ℕ) where
       let service = both _ _ (priority .0) in
       let addresses = both _ _ (service .0) in
       record {
-        idLow = within-low 1 last (idOf r) (d .1);
-        idHigh = within-high 1 last (idOf r) (d .1);
+        idLow = within-low 1 last (idOf r) (e .1);
+        idHigh = within-high 1 last (idOf r) (e .1);
         source = addresses .0;
         destination = addresses .1;
         service = service .1;
@@ -117,7 +149,8 @@ module _ (r : List ℕ) where
         validity = validity .1;
         registered = leb-true _ 1 (registered .1);
         words = words-of (text .1);
-        end = end-of (d .0) (b .1);
+        end = end-of (e .0) (c .1);
+        mark = mark-of (b .1);
         spare = a .1;
       }
 
@@ -128,15 +161,17 @@ module _ (r : List ℕ) where
       let times = and-both _ _ (and-both _ _ (and-both _ _ service (le-leb _ 1 (g .priority))) (g .schedule)) (g .validity) in
       let fields = and-both _ _ (and-both _ _ times (le-leb _ 1 (g .registered))) (of-words (g .words)) in
       let front = and-both _ _ (within-both 1 5 (stateOf r) (g .end .stateLow) (g .end .stateHigh)) (within-both 1 last (idOf r) (g .idLow) (g .idHigh)) in
-      and-both _ _ (and-both _ _ (and-both _ _ front fields) (of-end (g .end))) (g .spare)
+      let ended = and-both _ _ (and-both _ _ front fields) (of-end (g .end)) in
+      and-both _ _ (and-both _ _ ended (of-mark (g .registered) (g .end) (g .mark))) (g .spare)
 
 -- ---- a record is all zero or a message
 
--- its state is then 0
-pub zeros-state : (r : List ℕ) → zeros r ≡ true → stateOf r ≡ 0
+-- each octet is then 0
+pub zeros-at : (xs : List ℕ) (i : ℕ) → zeros xs ≡ true → getD xs i 0 ≡ 0
 unfolding every
-zeros-state [] h = refl
-zeros-state (x ∷ xs) h = eqb-true x 0 (and-left _ _ h)
+zeros-at [] i h = refl
+zeros-at (x ∷ xs) zero h = eqb-true x 0 (and-left (eqb x 0) (zeros xs) h)
+zeros-at (x ∷ xs) (suc i) h = zeros-at xs i (and-right (eqb x 0) (zeros xs) h)
 
 module _ (last : ℕ) (r : List ℕ) where
   pub good-record : Good last r → recordOk last r ≡ true
@@ -145,7 +180,16 @@ module _ (last : ℕ) (r : List ℕ) where
 
   pub record-good : recordOk last r ≡ true → (stateOf r ≡ 0 → ⊥) → Good last r
   unfolding recordOk
-  record-good h ne = ⊎-elim (λ z. absurd (ne (zeros-state r z))) (λ m. good-of r last m) (or-either (zeros r) (messageOk last r) h)
+  record-good h ne = ⊎-elim (λ z. absurd (ne (zeros-at r 0 z))) (λ m. good-of r last m) (or-either (zeros r) (messageOk last r) h)
+
+  -- an empty or waiting record has no mark
+  pub unfinished-unmarked : recordOk last r ≡ true → stateOf r ≤ 1 → marked r ≡ false
+  unfolding recordOk
+  unfinished-unmarked h low =
+      ne-eqb (markOf r) 1 λ one.
+      ⊎-elim (λ z. omega (arith, zeros-at r 250 z))
+      (λ m. let g = good-of r last m in omega (arith, g .mark .waiting (omega (arith, g .end .stateLow))))
+      (or-either (zeros r) (messageOk last r) h)
 
 -- with a greater last id
 pub good-later : (last last′ : ℕ) (r : List ℕ) → last ≤ last′ → Good last r → Good last′ r
@@ -162,6 +206,7 @@ good-later last last′ r h g =
       registered = g .registered;
       words = g .words;
       end = g .end;
+      mark = g .mark;
       spare = g .spare;
     }
 

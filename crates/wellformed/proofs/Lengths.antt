@@ -4,13 +4,16 @@ use mathlib.Core.List.{List}
 use Prim.Native.Nat.{ℕ, zero, suc, _+_, _*_}
 use lib.ListN.{length}
 use Rattle.octets.proofs.PatchLaws.{patch-length}
+use Rattle.wire.specs.declared.frame.Header.{Header}
 use Rattle.records.specs.Layout.{recordSize}
 use Rattle.store.specs.Places.{recordAt, onPlace, onPlaces}
+use Rattle.session.specs.declared.Receipt.{Receipt}
 use Rattle.submit.specs.Submit.{Submitted, submitted}
 use Rattle.account.specs.Cancel.{Changed, cancelled}
 use Rattle.account.specs.Replace.{replaced}
 use Rattle.account.specs.Outcome.{Reported, reported}
-use Rattle.wellformed.proofs.Cases.{submitted-cases, cancelled-cases, replaced-cases, reported-cases}
+use Rattle.receipts.specs.Settle.{Settled, acknowledged, settled}
+use Rattle.wellformed.proofs.Cases.{submitted-cases, cancelled-cases, replaced-cases, reported-cases, acknowledged-cases, settled-cases}
 
 pub onPlace-length : (f : List ℕ → List ℕ) (k : ℕ) (part : List ℕ) → length (onPlace f k part) ≡ length part
 onPlace-length f k part = patch-length part (recordSize * k) (f (recordAt k part))
@@ -41,3 +44,9 @@ module _ (part : List ℕ) where
   pub reported-length : (stamp : List ℕ) (id state error : ℕ) → length (reported stamp id state error part .part) ≡ length part
   reported-length stamp id state error =
       reported-cases stamp part (λ (r : Reported). length (r .part) ≡ length part) refl id state error (λ _ _ _. patch-length part _ _)
+
+  pub acknowledged-length : (id : ℕ) → length (acknowledged id part) ≡ length part
+  acknowledged-length id = acknowledged-cases part (λ (p : List ℕ). length p ≡ length part) refl id (λ _ _. patch-length part _ _)
+
+  pub settled-length : (h : Header) (receipt : Receipt) → length (settled h receipt part .part) ≡ length part
+  settled-length h receipt = settled-cases part (λ (r : Settled). length (r .part) ≡ length part) h receipt refl refl (λ id _ _ _. acknowledged-length id)

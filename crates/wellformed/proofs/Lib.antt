@@ -15,3 +15,5 @@ pub mod Parts
 pub mod Accounts
 pub mod Issued
 pub mod Elsewhere
+pub mod Marks
+pub mod Arises

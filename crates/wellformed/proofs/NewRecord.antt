@@ -1,4 +1,4 @@
--- A new record is well formed and waiting, and has its id. Assumes nothing.
+-- A new record is well formed and waiting, and has its id and no mark. Assumes nothing.
 use mathlib.Core.Path.{_≡_, refl, sym, ap, ap₂, _∙_}
 use mathlib.Core.Bool.{true}
 use mathlib.Core.Logic.{⊎-map}
@@ -19,7 +19,7 @@ use Rattle.changes.specs.Change.{head, terms, message, newRecord}
 use Rattle.changes.specs.declared.Fields.{Fields}
 use Rattle.wellformed.specs.Rules.{Timed}
 use Rattle.wellformed.specs.Good.{Good, GoodFields}
-use Rattle.wellformed.proofs.GoodIs.{or-one, or-either}
+use Rattle.wellformed.proofs.GoodIs.{or-one, or-either, no-mark}
 use Rattle.wellformed.proofs.TextFields.{padded-length, every-replicate, sent-stored}
 
 -- what stands at k, and what stands behind it
@@ -154,5 +154,6 @@ module _ (id : ℕ) (f : Fields) (service text : List ℕ) where
             date = λ ne. absurd (ne s);
             error = λ _. octet r (replicate 23 0) 233 16 at233;
           };
-          spare = ap zeros (ap (take 6) (next r (replicate 17 0) (replicate 6 0) 233 17 at233 refl));
+          mark = no-mark r (octet r (replicate 23 0) 233 17 at233);
+          spare = ap zeros (ap (take 5) (next r (replicate 18 0) (replicate 5 0) 233 18 at233 refl));
         }

@@ -5,8 +5,8 @@ use mathlib.Core.List.{List}
 use Prim.Native.Nat.{ℕ, _+_, _≤_, _<_}
 use native.Mathlib.Omega.{arith}
 use lib.ListN.{length}
-use lib.Dec.{eqb}
-use borrow.Author.Tests.{eqb-true, eqb-false, ne-eqb}
+use lib.Dec.{ltb, eqb}
+use borrow.Author.Tests.{ltb-true, ltb-false, eqb-true, eqb-false, ne-eqb}
 use Rattle.records.specs.Layout.{recordSize, places, partSize, stateOf, idOf}
 use Rattle.records.specs.Record.{recordOk}
 use Rattle.store.specs.Places.{recordAt, onPlace}
@@ -41,6 +41,15 @@ module _ (last : ℕ) (part : List ℕ) (g : GoodPart last part) where
   -- its ids are at most the last one
   pub id-within : (k : ℕ) → k < places → isEmpty (recordAt k part) ≡ false → idOf (recordAt k part) ≤ last
   id-within k h given = record-good last (recordAt k part) (g .each k h) (eqb-false _ 0 given) .idHigh
+
+  -- records that share an id share their place
+  pub one-place : (i j : ℕ) → i < places → j < places → Clash (recordAt i part) (recordAt j part) → i ≡ j
+  one-place i j h h′ c = by (ltb i j) (ltb j i) refl refl
+    where
+      by : (s t : Bool) → ltb i j ≡ s → ltb j i ≡ t → i ≡ j
+      by true t e e′ = absurd (g .apart i j (ltb-true i j e) h′ c)
+      by false true e e′ = absurd (g .apart j i (ltb-true j i e′) h (c .1, c .0, sym (c .2)))
+      by false false e e′ = omega (arith, ltb-false i j e, ltb-false j i e′)
 
   pub each-follows : (part′ : List ℕ) → ((k : ℕ) → k < places → Follows last (recordAt k part) (recordAt k part′)) → GoodPart last part′
   each-follows part′ f =

@@ -12,7 +12,7 @@ use Rattle.requests.specs.declared.cancel.Cancel.{Cancel}
 use Rattle.requests.specs.declared.replace.Replace.{Replace}
 use Rattle.records.specs.Layout.{places, idOf}
 use Rattle.store.specs.Places.{recordAt, onPlace, onPlaces}
-use Rattle.changes.specs.Change.{newRecord, retexted, corrected, finished}
+use Rattle.changes.specs.Change.{newRecord, retexted, corrected, finished, unmarked}
 use Rattle.source.specs.Source.{sourceFor}
 use Rattle.submit.specs.Submit.{Submitted, fieldsOf}
 use Rattle.account.specs.Cancel.{Changed, changed, deleted, deletedIf}
@@ -84,3 +84,8 @@ correctedAt body part k = changed 0 (onPlace (corrected (correctionOf (replaceme
 
 abbrev pub finishedAt : List ℕ → ℕ → ℕ → List ℕ → ℕ → Reported
 finishedAt stamp state error part k = told true (onPlace (finished state error stamp) k part)
+
+-- ---- a receipt acknowledged
+
+abbrev pub unmarkedAt : List ℕ → ℕ → List ℕ
+unmarkedAt part k = onPlace unmarked k part

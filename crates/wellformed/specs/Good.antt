@@ -1,4 +1,4 @@
--- When a message record and an account are well formed (document 01, "The account book and the table"), a rule to a line.
+-- When a message record and an account are well formed (document 01, "The account book and the table"; document 02, 1), a rule to a line.
 use Prim.Native.Nat.{ℕ, _≤_, _<_}
 use mathlib.Core.Path.{_≡_}
 use mathlib.Core.Bool.{true, false}
@@ -10,7 +10,7 @@ use Rattle.forms.specs.Text.{longestText}
 use Rattle.forms.specs.Field.{addressSize, isField}
 use Rattle.forms.specs.Time.{storedTime}
 use Rattle.forms.specs.declared.text.Form.the-variants.{Ascii}
-use Rattle.records.specs.Layout.{places, stateOf, idOf, sourceOf, destinationOf, serviceOf, priorityOf, scheduleOf, validityOf, registeredOf, defaultOf, lengthOf, textFieldOf, dateOf, errorOf, spareOf}
+use Rattle.records.specs.Layout.{places, stateOf, idOf, sourceOf, destinationOf, serviceOf, priorityOf, scheduleOf, validityOf, registeredOf, defaultOf, lengthOf, textFieldOf, dateOf, errorOf, markOf, spareOf}
 use Rattle.records.specs.Record.{addressOk, timeOk, recordOk}
 use Rattle.changes.specs.declared.Fields.{Fields}
 use Rattle.store.specs.Places.{recordAt}
@@ -25,6 +25,12 @@ pub record GoodEnd (r : List ℕ) : Type 0 where
   pub date : (stateOf r ≡ 1 → ⊥) → storedTime (dateOf r) ≡ true
   pub error : (stateOf r ≡ 1) ⊎ (stateOf r ≡ 4) → errorOf r ≡ 0
 
+-- the mark is 0 or 1, and 0 where the record is unregistered or waiting
+pub record GoodMark (r : List ℕ) : Type 0 where
+  pub bit : markOf r ≤ 1
+  pub unregistered : registeredOf r ≡ 0 → markOf r ≡ 0
+  pub waiting : stateOf r ≡ 1 → markOf r ≡ 0
+
 -- default id at most 100, length at most 140, not both given, unused text octets zero
 pub record GoodWords (r : List ℕ) : Type 0 where
   pub default : defaultOf r ≤ 100
@@ -32,7 +38,7 @@ pub record GoodWords (r : List ℕ) : Type 0 where
   pub notBoth : (lengthOf r ≡ 0) ⊎ (defaultOf r ≡ 0)
   pub unused : zeros (drop (lengthOf r) (textFieldOf r)) ≡ true
 
--- its id lies in 1..last, both addresses are given, every field passes the submission rules, and octets 250-255 are zero
+-- its id lies in 1..last, both addresses are given, every field passes the submission rules, and octets 251-255 are zero
 pub record Good (last : ℕ) (r : List ℕ) : Type 0 where
   pub idLow : 1 ≤ idOf r
   pub idHigh : idOf r ≤ last
@@ -45,6 +51,7 @@ pub record Good (last : ℕ) (r : List ℕ) : Type 0 where
   pub registered : registeredOf r ≤ 1
   pub words : GoodWords r
   pub end : GoodEnd r
+  pub mark : GoodMark r
   pub spare : zeros (spareOf r) ≡ true
 
 -- two non-empty records that share an id

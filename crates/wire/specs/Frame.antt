@@ -34,6 +34,6 @@ Framed octets More = Unit
 Framed octets Malformed = Unit
 Framed octets (Whole n) = (shortestPdu ≤ n) × (n ≤ length octets)
 
--- the request's own status field is ignored
+-- a request's own status field is ignored; a response's counts
 unfoldable pub headerOf : List ℕ → Header
-headerOf pdu = record { command = number (part 4 4 pdu); sequence = number (part 12 4 pdu) }
+headerOf pdu = record { command = number (part 4 4 pdu); status = number (part 8 4 pdu); sequence = number (part 12 4 pdu) }

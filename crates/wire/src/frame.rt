@@ -34,9 +34,10 @@ pub fn frame_of(octets: &[u8]) -> Frame
     Frame::Whole(whole)
 }
 
-// What a reply needs of a request's header; its status field is ignored.
+// A header but for its length. Of a request the status field is ignored.
 pub struct Header {
     pub command: u32,
+    pub status: u32,
     pub sequence: u32,
 }
 
@@ -45,6 +46,11 @@ pub fn read_header(pdu: &[u8]) -> Header
     ensures { λ r. ⌜ r ≡ headerOf (now (pdu .entry)) ⌝ }
 {
     let command = octets::number::number_at(pdu, 4);
+    let status = octets::number::number_at(pdu, 8);
     let sequence = octets::number::number_at(pdu, 12);
-    Header { command, sequence }
+    Header {
+        command,
+        status,
+        sequence,
+    }
 }

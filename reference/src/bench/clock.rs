@@ -7,7 +7,7 @@ use std::time::{Duration, Instant};
 
 const LEAST_ROUNDS: usize = 40;
 
-/// The nanoseconds of a step on one engine, round by round.
+/// The nanoseconds of a call on one engine, round by round.
 #[derive(Clone, Debug, Default)]
 pub struct Timing {
     rounds: Vec<f64>,
@@ -49,14 +49,14 @@ pub fn time(engines: &[&dyn Engine], scenario: &Scenario, long: Duration) -> Vec
     timings
 }
 
-/// The nanoseconds of a step in one round. The world is made anew outside of the time.
+/// The nanoseconds of a call in one round. The world is made anew outside of the time.
 fn one_round(engine: &dyn Engine, scenario: &Scenario) -> f64 {
     let mut world = scenario.world.clone();
     let start = Instant::now();
     for step in &scenario.steps {
         black_box(world.play(engine, step));
     }
-    start.elapsed().as_nanos() as f64 / scenario.steps.len() as f64
+    start.elapsed().as_nanos() as f64 / scenario.calls() as f64
 }
 
 fn median(numbers: Vec<f64>) -> f64 {

@@ -1,9 +1,10 @@
 //! What is measured: each kind of request by itself, and a mixed load.
 
 use crate::centre::{Reference, ACCOUNTS, PLACES, SESSIONS};
-use crate::compare::{History, Outcome, Sizes, Step, Take, World, PLAIN_STAMP};
+use crate::compare::{Deliver, History, Outcome, Sizes, Step, Take, World, PLAIN_STAMP};
 use crate::compose::{
-    set_command, Address, Bind, Cancel, Query, Replace, Request, Role, Submit, Text,
+    deliver_sm_resp, set_command, Address, Bind, Cancel, Query, Replace, Request, Role, Submit,
+    Text,
 };
 use crate::generate::{history, Manner};
 
@@ -23,6 +24,13 @@ impl Scenario {
         };
         self.steps.iter().map(of_step).sum()
     }
+
+    /// The steps that call an engine. The others set something between two calls, which takes
+    /// next to no time.
+    pub fn calls(&self) -> usize {
+        let call = |step: &&Step| !matches!(step, Step::SetReceipt { .. });
+        self.steps.iter().filter(call).count()
+    }
 }
 
 const MIXED_STEPS: usize = 5_000;
@@ -30,7 +38,8 @@ const TEXT: usize = 80;
 
 pub fn scenarios() -> Vec<Scenario> {
     let submitted = || [bound(), each(submit)].concat();
-    let finished = || [submitted(), each(deliver)].concat();
+    let finished = || [submitted(), each(finish)].concat();
+    let owed = || [with_receivers(), each(submit_registered), each(finish)].concat();
     vec![
         scenario("open", vec![], sessions(|session| Step::Open { session })),
         scenario(
@@ -62,8 +71,20 @@ pub fn scenarios() -> Vec<Scenario> {
         scenario("replace_sm", submitted(), each(replace)),
         scenario("unknown command", submitted(), each(unknown)),
         scenario("response", submitted(), each(response)),
-        scenario("outcome", submitted(), each(deliver)),
+        scenario("outcome", submitted(), each(finish)),
         scenario("pick", submitted(), each(pick)),
+        scenario("enquire_link, receiver", owed(), each(enquire_as_receiver)),
+        scenario("deliver_sm", owed(), pairs(each(deliver), each(forget))),
+        scenario(
+            "deliver_sm_resp",
+            owed(),
+            pairs(each(outstanding), each(acknowledge)),
+        ),
+        scenario(
+            "deliver_sm and its answer",
+            owed(),
+            pairs(each(deliver), each(acknowledge)),
+        ),
         mixed(),
     ]
 }
@@ -129,12 +150,31 @@ fn each(step: fn(usize, usize) -> Step) -> Vec<Step> {
         .collect()
 }
 
+/// Each step with the one that follows it.
+fn pairs(first: Vec<Step>, second: Vec<Step>) -> Vec<Step> {
+    let pairs = first.into_iter().zip(second);
+    pairs.flat_map(|(one, other)| [one, other]).collect()
+}
+
 fn opened() -> Vec<Step> {
     sessions(|session| Step::Open { session })
 }
 
 fn bound() -> Vec<Step> {
     [opened(), sessions(bind)].concat()
+}
+
+/// A transmitter of each account, and above them a receiver of each.
+fn with_receivers() -> Vec<Step> {
+    let bound = sessions(|session| match session < ACCOUNTS {
+        true => bind(session),
+        false => bind_as(Role::Receiver, session),
+    });
+    [opened(), bound].concat()
+}
+
+fn receiver(account: usize) -> usize {
+    ACCOUNTS + account
 }
 
 fn take(session: usize, request: Request) -> Step {
@@ -189,6 +229,12 @@ fn submit(account: usize, place: usize) -> Step {
     take(account, Request::Submit(submission(place)))
 }
 
+fn submit_registered(account: usize, place: usize) -> Step {
+    let mut submit = submission(place);
+    submit.registered = 1;
+    take(account, Request::Submit(submit))
+}
+
 fn submit_again(account: usize, place: usize) -> Step {
     let mut submit = submission(place);
     submit.replace_if_present = 1;
@@ -240,6 +286,39 @@ fn enquire(account: usize, _place: usize) -> Step {
     take(account, Request::EnquireLink)
 }
 
+fn enquire_as_receiver(account: usize, _place: usize) -> Step {
+    take(receiver(account), Request::EnquireLink)
+}
+
+const RECEIPT: u32 = 700;
+
+fn deliver(account: usize, _place: usize) -> Step {
+    Step::Deliver(Deliver::plain(receiver(account), RECEIPT))
+}
+
+/// The receipt that was written is owed again.
+fn forget(account: usize, _place: usize) -> Step {
+    Step::SetReceipt {
+        session: receiver(account),
+        id: 0,
+        sequence: 0,
+    }
+}
+
+/// As if the receipt had been written.
+fn outstanding(account: usize, place: usize) -> Step {
+    Step::SetReceipt {
+        session: receiver(account),
+        id: place as u32 + 1,
+        sequence: RECEIPT,
+    }
+}
+
+fn acknowledge(account: usize, _place: usize) -> Step {
+    let octets = deliver_sm_resp(0, RECEIPT, &[0]);
+    Step::Take(Take::plain(receiver(account), octets))
+}
+
 fn unknown(account: usize, _place: usize) -> Step {
     with_command(account, 5)
 }
@@ -254,7 +333,8 @@ fn with_command(session: usize, command: u32) -> Step {
     Step::Take(Take::plain(session, octets))
 }
 
-fn deliver(account: usize, place: usize) -> Step {
+/// The message is delivered.
+fn finish(account: usize, place: usize) -> Step {
     Step::Outcome(Outcome {
         sizes: Sizes::default(),
         stamp: PLAIN_STAMP.to_vec(),
@@ -271,5 +351,30 @@ fn pick(account: usize, _place: usize) -> Step {
     Step::Pick {
         sizes: Sizes::default(),
         account,
+    }
+}
+
+#[cfg(test)]
+mod tests {
+    use super::*;
+    use crate::centre::Message;
+
+    #[test]
+    fn each_receipt_is_written_and_each_answer_clears_a_mark() {
+        let receipts = |scenario: &Scenario| scenario.name.starts_with("deliver_sm");
+        for mut scenario in scenarios().into_iter().filter(receipts) {
+            let marks = |world: &World| {
+                let places = world.table().as_chunks().0.iter();
+                places.filter(|place| Message(place).is_marked()).count()
+            };
+            assert_eq!(marks(&scenario.world), ACCOUNTS * PLACES);
+            let mut answers = 0;
+            for step in &scenario.steps {
+                let answer = scenario.world.play(&Reference::sound(), step);
+                assert_eq!(answer.number, 0, "{}: {step}", scenario.name);
+                answers += usize::from(matches!(step, Step::Take(_)));
+            }
+            assert_eq!(marks(&scenario.world), ACCOUNTS * PLACES - answers);
+        }
     }
 }

@@ -1,8 +1,8 @@
 //! Stack: paint it, make the calls, and see how far down the paint is gone.
 
 use super::scenarios::Scenario;
-use crate::centre::{Lent, PlainState, Report};
-use crate::compare::{Engine, Moved, Sent, Step, Taken, World};
+use crate::centre::{Lent, PlainState, Report, View};
+use crate::compare::{Delivered, Engine, Moved, Sent, Step, Taken, World};
 use std::hint::black_box;
 
 /// The thread's whole stack, and how much of it is painted.
@@ -114,6 +114,21 @@ impl Engine for Idle {
 
     fn outcome(&self, _: Lent<'_>, _: &PlainState, _: &[u8], _: Report) -> u8 {
         0
+    }
+
+    fn deliver(
+        &self,
+        _: View<'_>,
+        state: &PlainState,
+        _: usize,
+        _: u32,
+        _: &mut [u8],
+    ) -> Delivered {
+        Delivered {
+            number: 0,
+            written: 0,
+            state: *state,
+        }
     }
 
     fn pick_number(&self, _: &[u8], _: &[u8], _: &PlainState, _: usize) -> u8 {

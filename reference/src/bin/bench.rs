@@ -12,12 +12,13 @@ use std::time::Duration;
 const MILLISECONDS: u64 = 200;
 
 const LEGEND: &str = "\
-ns     of a step, in the middle round
+ns     of a call, in the middle round
 noise  from the quickest tenth of the rounds to the slowest, as a part of the middle one
 MB/s   millions of octets taken in a second
 stack  octets that the deepest call uses
 ratio  of the times, each round with the one beside it
-A pick is two calls, one for the number and one for the place.
+A pick is two calls, one for the number and one for the place. The scenarios behind it are on
+receivers of accounts that owe sixteen receipts; of a receipt and its answer each is a call.
 ";
 
 type Engines = Vec<&'static (dyn Engine + Sync)>;
@@ -82,7 +83,7 @@ fn rate(scenario: &Scenario, timing: &Timing) -> String {
     match scenario.octets() {
         0 => "-".to_string(),
         octets => {
-            let nanoseconds = timing.median() * scenario.steps.len() as f64;
+            let nanoseconds = timing.median() * scenario.calls() as f64;
             format!("{:.1}", octets as f64 * 1000.0 / nanoseconds)
         }
     }

@@ -42,6 +42,21 @@ pub fn waiting_with_id(places: &[Place], id: u32) -> Option<usize> {
         .position(|place| Message(place).is_waiting() && Message(place).id() == id)
 }
 
+/// The place of the message with this id, in whatever state.
+pub fn with_id(places: &[Place], id: u32) -> Option<usize> {
+    places
+        .iter()
+        .position(|place| !Message(place).is_empty() && Message(place).id() == id)
+}
+
+/// The place of the marked message with the lowest id among those that may be told of.
+pub fn lowest_marked(places: &[Place], may_be_told: impl Fn(u32) -> bool) -> Option<usize> {
+    best(places, |message| {
+        let id = message.id();
+        (message.is_marked() && may_be_told(id)).then_some(id)
+    })
+}
+
 /// The place whose message has the least rank among those that have one.
 fn best<R: Ord>(places: &[Place], rank: impl Fn(Message<'_>) -> Option<R>) -> Option<usize> {
     let ranked = places
@@ -169,12 +184,9 @@ impl<'a> Account<'a> {
         }
     }
 
-    /// The place of the message with this id, in whatever state.
+    /// The place of the message that a request names.
     fn find(&self, id: Option<u32>) -> Result<usize, Status> {
-        let id = id.ok_or(Status::MessageId)?;
-        self.places
-            .iter()
-            .position(|place| !Message(place).is_empty() && Message(place).id() == id)
+        id.and_then(|id| with_id(self.places, id))
             .ok_or(Status::MessageId)
     }
 
@@ -200,14 +212,20 @@ impl<'a> Account<'a> {
             .min_by_key(|&at| Message(&self.places[at]).id())
     }
 
-    /// The lowest empty place, else the one of the oldest finished message.
+    /// The lowest empty place, else the one of the oldest finished message that no receipt is
+    /// owed for.
     fn place_for_another(&self) -> Option<usize> {
         let empty = || {
             self.places
                 .iter()
                 .position(|place| Message(place).is_empty())
         };
-        let finished = || best(self.places, |m| m.is_finished().then(|| m.id()));
+        let told = |m: Message<'_>| !m.is_marked() || self.errs(Fault::MarkedOverwritten);
+        let finished = || {
+            best(self.places, |m| {
+                (m.is_finished() && told(m)).then(|| m.id())
+            })
+        };
         if self.errs(Fault::FullTooEarly) {
             empty()
         } else if self.errs(Fault::ReuseOfWaiting) {

@@ -1,4 +1,5 @@
-//! Faults that can be planted, one for each error that a hurried builder makes.
+//! Faults that can be planted: one for each error that a hurried builder makes, as the outline
+//! lists them, and one for each that receipts make easy.
 
 #[derive(Clone, Copy, Debug, PartialEq, Eq)]
 pub enum Fault {
@@ -16,10 +17,26 @@ pub enum Fault {
     FullTooEarly,
     /// Old text octets left behind a shorter text.
     OldTextBehind,
+    /// A receipt written to a transmitter.
+    ReceiptToTransmitter,
+    /// A mark cleared by an answer with any status.
+    AnyStatusClears,
+    /// A mark cleared by an answer with another sequence number.
+    AnySequenceClears,
+    /// A marked record written over.
+    MarkedOverwritten,
+    /// A mark in the record of a message that isn't registered.
+    UnregisteredMarked,
+    /// A close after which the receipt is still outstanding.
+    CloseKeepsReceipt,
+    /// A receipt from the message's source to its destination.
+    ReceiptNotExchanged,
+    /// The same id outstanding on two sessions of an account.
+    IdGivenTwice,
 }
 
 impl Fault {
-    pub const ALL: [Fault; 7] = [
+    pub const ALL: [Fault; 15] = [
         Fault::OneCounter,
         Fault::NeighbourRaisesNine,
         Fault::EmptySourceMatchesAny,
@@ -27,6 +44,14 @@ impl Fault {
         Fault::ReuseOfWaiting,
         Fault::FullTooEarly,
         Fault::OldTextBehind,
+        Fault::ReceiptToTransmitter,
+        Fault::AnyStatusClears,
+        Fault::AnySequenceClears,
+        Fault::MarkedOverwritten,
+        Fault::UnregisteredMarked,
+        Fault::CloseKeepsReceipt,
+        Fault::ReceiptNotExchanged,
+        Fault::IdGivenTwice,
     ];
 
     /// The name by which the fault is chosen on a command line.
@@ -39,6 +64,14 @@ impl Fault {
             Fault::ReuseOfWaiting => "reuse-of-waiting",
             Fault::FullTooEarly => "full-too-early",
             Fault::OldTextBehind => "old-text-behind",
+            Fault::ReceiptToTransmitter => "receipt-to-transmitter",
+            Fault::AnyStatusClears => "any-status-clears",
+            Fault::AnySequenceClears => "any-sequence-clears",
+            Fault::MarkedOverwritten => "marked-overwritten",
+            Fault::UnregisteredMarked => "unregistered-marked",
+            Fault::CloseKeepsReceipt => "close-keeps-receipt",
+            Fault::ReceiptNotExchanged => "receipt-not-exchanged",
+            Fault::IdGivenTwice => "id-given-twice",
         }
     }
 

@@ -33,7 +33,9 @@ pub mod layout {
     pub const TEXT: Range<usize> = 93..233;
     pub const FINAL_DATE: Range<usize> = 233..249;
     pub const ERROR: usize = 249;
-    pub const SPARE: Range<usize> = 250..256;
+    /// 1 where a receipt is owed.
+    pub const MARK: usize = 250;
+    pub const SPARE: Range<usize> = 251..256;
 }
 
 pub const EMPTY: u8 = 0;
@@ -95,6 +97,15 @@ impl<'a> Message<'a> {
         (DELIVERED..=UNDELIVERABLE).contains(&self.state())
     }
 
+    pub fn is_registered(self) -> bool {
+        self.0[layout::REGISTERED] == 1
+    }
+
+    /// Whether a receipt is owed that nobody has acknowledged.
+    pub fn is_marked(self) -> bool {
+        self.0[layout::MARK] == 1
+    }
+
     pub fn is_well_formed(self, last: u32) -> bool {
         if self.is_empty() {
             return is_zero(self.0);
@@ -106,6 +117,7 @@ impl<'a> Message<'a> {
             && self.has_sound_options()
             && self.has_sound_text()
             && self.has_sound_ending()
+            && self.has_sound_mark()
             && is_zero(&self.0[layout::SPARE])
     }
 
@@ -136,6 +148,15 @@ impl<'a> Message<'a> {
             is_time(date)
         };
         dated && (!matches!(self.state(), WAITING | DELETED) || self.error() == 0)
+    }
+
+    /// A receipt can be owed only for what was registered and is finished.
+    fn has_sound_mark(self) -> bool {
+        match self.0[layout::MARK] {
+            0 => true,
+            1 => self.is_registered() && self.is_finished(),
+            _ => false,
+        }
     }
 }
 
@@ -197,11 +218,17 @@ pub fn put_times(place: &mut Place, schedule: &[u8], validity: &[u8]) {
     }
 }
 
-/// Brings a message to its final state.
+/// Brings a message to its final state. From then on a receipt is owed for a registered one.
 pub fn finish(place: &mut Place, state: u8, error: u8, stamp: &[u8; STAMP]) {
     place[layout::STATE] = state;
     place[layout::ERROR] = error;
     place[layout::FINAL_DATE].copy_from_slice(stamp);
+    place[layout::MARK] = u8::from(Message(place).is_registered());
+}
+
+/// The receipt was acknowledged.
+pub fn clear_mark(place: &mut Place) {
+    place[layout::MARK] = 0;
 }
 
 fn put_party(field: &mut [u8], party: Party<'_>) {

@@ -1,11 +1,12 @@
 //! The operations that take no octets: opening, closing, outcomes and picking.
 
 use super::account::{next_to_send, waiting_with_id};
-use super::message::{self, DELIVERED, EXPIRED, PLACE, UNDELIVERABLE};
+use super::fault::Fault;
+use super::message::{self, layout, DELIVERED, EXPIRED, PLACE, UNDELIVERABLE};
 use super::refusal::Refusal;
 use super::state::{Entry, State, ACCOUNTS};
 use super::take::sound_stamp;
-use super::{check_account, part, part_mut, Lent, Place, Reference, BOOK, PART, TABLE};
+use super::{check_account, part, part_mut, Lent, Reference, View, PART};
 
 /// What became of a message.
 #[derive(Clone, Copy, Debug, PartialEq, Eq)]
@@ -19,16 +20,21 @@ pub struct Report {
 
 impl Reference {
     pub fn open(&self, state: &mut State, session: usize) -> Result<(), Refusal> {
-        let entry = entry_mut(state, session)?;
+        let entry = state.entries.get(session).ok_or(Refusal::NoSuchSession)?;
         if *entry != Entry::Closed {
             return Err(Refusal::WrongEntry);
         }
-        *entry = Entry::Open;
+        state.enter(session, Entry::Open);
         Ok(())
     }
 
+    /// A receipt that was outstanding is owed again.
     pub fn close(&self, state: &mut State, session: usize) -> Result<(), Refusal> {
-        *entry_mut(state, session)? = Entry::Closed;
+        let receipt = *state.receipts.get(session).ok_or(Refusal::NoSuchSession)?;
+        state.enter(session, Entry::Closed);
+        if self.errs(Fault::CloseKeepsReceipt) {
+            state.receipts[session] = receipt;
+        }
         Ok(())
     }
 
@@ -51,6 +57,9 @@ impl Reference {
         let places = part_mut(records.places, report.account);
         let at = waiting_with_id(places, report.id).ok_or(Refusal::NoSuchMessage)?;
         message::finish(&mut places[at], report.outcome, report.error, stamp);
+        if self.errs(Fault::UnregisteredMarked) {
+            places[at][layout::MARK] = 1;
+        }
         Ok(())
     }
 
@@ -62,19 +71,12 @@ impl Reference {
         state: &State,
         account: usize,
     ) -> Result<usize, Refusal> {
-        if book.len() != BOOK || table.len() != TABLE {
-            return Err(Refusal::WrongSize);
-        }
+        let (book, places) = View::new(book, table).records()?;
         if account >= ACCOUNTS {
             return Err(Refusal::NoSuchAccount);
         }
-        let places: &[Place] = table.as_chunks().0;
-        check_account(book.as_chunks().0, places, state, account)?;
+        check_account(book, places, state, account)?;
         let place = next_to_send(part(places, account)).ok_or(Refusal::NothingWaiting)?;
         Ok(PART * account + PLACE * place)
     }
-}
-
-fn entry_mut(state: &mut State, session: usize) -> Result<&mut Entry, Refusal> {
-    state.entries.get_mut(session).ok_or(Refusal::NoSuchSession)
 }

@@ -18,10 +18,12 @@ pub enum Refusal {
     AccountIllFormed = 9,
     NoSuchMessage = 10,
     NothingWaiting = 11,
+    NoReceiver = 12,
+    NothingOwed = 13,
 }
 
 impl Refusal {
-    pub const ALL: [Refusal; 11] = [
+    pub const ALL: [Refusal; 13] = [
         Refusal::MoreNeeded,
         Refusal::NoSuchSession,
         Refusal::WrongSize,
@@ -33,6 +35,8 @@ impl Refusal {
         Refusal::AccountIllFormed,
         Refusal::NoSuchMessage,
         Refusal::NothingWaiting,
+        Refusal::NoReceiver,
+        Refusal::NothingOwed,
     ];
 
     pub fn number(self) -> u8 {
@@ -43,13 +47,13 @@ impl Refusal {
         Refusal::ALL.into_iter().find(|r| r.number() == number)
     }
 
-    /// The outline's own words for the number.
+    /// The documents' own words for the number.
     pub fn words(self) -> &'static str {
         match self {
             Refusal::MoreNeeded => "more octets needed, none consumed",
             Refusal::NoSuchSession => "session number above 15",
             Refusal::WrongSize => "book not 512 octets or table not 32,768",
-            Refusal::SpaceTooSmall => "response space under 44 octets",
+            Refusal::SpaceTooSmall => "response space under 44 octets (for a receipt: under 91)",
             Refusal::StampIllFormed => "time stamp ill formed",
             Refusal::WrongEntry => {
                 "session not open, transmitter or receiver (on opening: not closed)"
@@ -61,6 +65,8 @@ impl Refusal {
             }
             Refusal::NoSuchMessage => "no waiting message with that id",
             Refusal::NothingWaiting => "nothing waiting",
+            Refusal::NoReceiver => "not a receiver, or a receipt outstanding",
+            Refusal::NothingOwed => "nothing owed",
         }
     }
 }

@@ -2,12 +2,11 @@
 
 use super::account::Report;
 use super::command::{GENERIC_NAK, RESPONSE};
+use super::out::{hex, write_pdu, Header, Out};
 use super::status::Status;
 
 /// A query's reply with a final date.
 pub const LONGEST_REPLY: usize = 44;
-
-const HEADER: usize = 16;
 
 /// What follows the header.
 pub enum Body<'a> {
@@ -43,23 +42,16 @@ impl<'a> Reply<'a> {
 
     /// Writes the reply at the front of the space and tells its length.
     pub fn write(&self, space: &mut [u8]) -> usize {
-        let (header, after) = space.split_at_mut(HEADER);
-        let length = HEADER + write_body(&self.body, after);
-        let words = [
-            length as u32,
-            self.command,
-            self.status.code(),
-            self.sequence,
-        ];
-        for (field, word) in header.chunks_exact_mut(4).zip(words) {
-            field.copy_from_slice(&word.to_be_bytes());
-        }
-        length
+        let header = Header {
+            command: self.command,
+            status: self.status.code(),
+            sequence: self.sequence,
+        };
+        write_pdu(space, header, |out| write_body(out, &self.body))
     }
 }
 
-fn write_body(body: &Body<'_>, space: &mut [u8]) -> usize {
-    let mut out = Out { space, written: 0 };
+fn write_body(out: &mut Out<'_>, body: &Body<'_>) {
     match body {
         Body::Nothing => {}
         Body::SystemId => out.text(b"SMSC33"),
@@ -72,7 +64,6 @@ fn write_body(body: &Body<'_>, space: &mut [u8]) -> usize {
         }
         Body::Report(None) => out.octets(&[0; 4]),
     }
-    out.written
 }
 
 /// SMPP v3.3 lists EN_ROUTE first and counts from 0; the table counts from 1.
@@ -80,41 +71,9 @@ fn wire_state(state: u8) -> u8 {
     state - 1
 }
 
-/// Eight upper-case hex digits.
-fn hex(id: u32) -> [u8; 8] {
-    std::array::from_fn(|nth| {
-        let digit = id >> (28 - 4 * nth) & 15;
-        b"0123456789ABCDEF"[digit as usize]
-    })
-}
-
-struct Out<'a> {
-    space: &'a mut [u8],
-    written: usize,
-}
-
-impl Out<'_> {
-    fn octets(&mut self, octets: &[u8]) {
-        let end = self.written + octets.len();
-        self.space[self.written..end].copy_from_slice(octets);
-        self.written = end;
-    }
-
-    fn text(&mut self, text: &[u8]) {
-        self.octets(text);
-        self.octets(&[0]);
-    }
-}
-
 #[cfg(test)]
 mod tests {
     use super::*;
-
-    #[test]
-    fn ids_are_eight_upper_case_digits() {
-        assert_eq!(&hex(1), b"00000001");
-        assert_eq!(&hex(0xFEDC_BA98), b"FEDCBA98");
-    }
 
     #[test]
     fn the_longest_reply_fits_exactly() {

@@ -1,4 +1,5 @@
-//! What the centre remembers besides the table: 16 session entries and 8 last-issued ids.
+//! What the centre remembers besides the table: 16 session entries, 8 last-issued ids, and which
+//! receipts were written and not answered yet.
 
 pub const SESSIONS: usize = 16;
 pub const ACCOUNTS: usize = 8;
@@ -28,10 +29,37 @@ impl Entry {
     }
 }
 
+/// A receipt that a receiver was sent and hasn't answered yet.
+#[derive(Clone, Copy, Debug, PartialEq, Eq)]
+pub struct Receipt {
+    /// Of the message; never 0.
+    pub id: u32,
+    /// Of the deliver_sm, and so of the answer to it.
+    pub sequence: u32,
+}
+
 #[derive(Clone, Copy, Debug, Default, PartialEq, Eq)]
 pub struct State {
     pub entries: [Entry; SESSIONS],
     pub lasts: [u32; ACCOUNTS],
+    /// Outstanding receipts, of receivers only.
+    pub receipts: [Option<Receipt>; SESSIONS],
+}
+
+impl State {
+    /// Gives a session another entry. Whatever it becomes, it has been sent no receipt yet.
+    pub fn enter(&mut self, session: usize, entry: Entry) {
+        self.entries[session] = entry;
+        self.receipts[session] = None;
+    }
+
+    /// Whether a receiver of this account has that message's receipt outstanding.
+    pub fn is_outstanding(&self, account: u8, id: u32) -> bool {
+        let sessions = self.entries.iter().zip(&self.receipts);
+        sessions
+            .filter(|(entry, _)| **entry == Entry::Receiver(account))
+            .any(|(_, receipt)| receipt.is_some_and(|receipt| receipt.id == id))
+    }
 }
 
 /// The state as plain numbers, which is how it crosses the C interface. All zero is the
@@ -42,6 +70,10 @@ pub struct PlainState {
     pub kinds: [u8; SESSIONS],
     pub accounts: [u8; SESSIONS],
     pub lasts: [u32; ACCOUNTS],
+    /// The id of the receipt that is outstanding on a receiver, 0 for none.
+    pub receipts: [u32; SESSIONS],
+    /// The sequence number that it was sent with.
+    pub sequences: [u32; SESSIONS],
 }
 
 impl PlainState {
@@ -66,6 +98,19 @@ impl PlainState {
         };
         self.accounts[session] = entry.account().unwrap_or(0);
     }
+
+    /// What is outstanding on a session: nothing, whatever the numbers, where it is no receiver
+    /// or where the id is 0.
+    pub fn receipt(&self, session: usize) -> Option<Receipt> {
+        let (id, sequence) = (self.receipts[session], self.sequences[session]);
+        let receiver = matches!(self.entry(session), Entry::Receiver(_));
+        (receiver && id != 0).then_some(Receipt { id, sequence })
+    }
+
+    pub fn set_receipt(&mut self, session: usize, receipt: Option<Receipt>) {
+        self.receipts[session] = receipt.map_or(0, |receipt| receipt.id);
+        self.sequences[session] = receipt.map_or(0, |receipt| receipt.sequence);
+    }
 }
 
 impl From<&PlainState> for State {
@@ -73,6 +118,7 @@ impl From<&PlainState> for State {
         State {
             entries: std::array::from_fn(|session| plain.entry(session)),
             lasts: plain.lasts,
+            receipts: std::array::from_fn(|session| plain.receipt(session)),
         }
     }
 }
@@ -83,8 +129,9 @@ impl From<&State> for PlainState {
             lasts: state.lasts,
             ..PlainState::default()
         };
-        for (session, &entry) in state.entries.iter().enumerate() {
-            plain.set_entry(session, entry);
+        for session in 0..SESSIONS {
+            plain.set_entry(session, state.entries[session]);
+            plain.set_receipt(session, state.receipts[session]);
         }
         plain
     }
@@ -125,5 +172,53 @@ mod tests {
             state.lasts[2] = 77;
             assert_eq!(State::from(&PlainState::from(&state)), state);
         }
+    }
+
+    #[test]
+    fn the_plain_form_is_what_the_header_says() {
+        use std::mem::{align_of, offset_of, size_of};
+        assert_eq!(size_of::<PlainState>(), 192);
+        assert_eq!(align_of::<PlainState>(), 4);
+        assert_eq!(offset_of!(PlainState, accounts), 16);
+        assert_eq!(offset_of!(PlainState, lasts), 32);
+        assert_eq!(offset_of!(PlainState, receipts), 64);
+        assert_eq!(offset_of!(PlainState, sequences), 128);
+    }
+
+    #[test]
+    fn only_a_receiver_has_a_receipt_and_its_id_is_not_0() {
+        let receipt = Receipt { id: 7, sequence: 9 };
+        let noisy = |kind, id| {
+            let mut plain = PlainState::default();
+            plain.kinds[3] = kind;
+            plain.receipts[3] = id;
+            plain.sequences[3] = 9;
+            plain
+        };
+        assert_eq!(noisy(3, 7).receipt(3), Some(receipt));
+        for plain in [
+            noisy(0, 7),
+            noisy(1, 7),
+            noisy(2, 7),
+            noisy(4, 7),
+            noisy(3, 0),
+        ] {
+            assert_eq!(plain.receipt(3), None);
+            let back = PlainState::from(&State::from(&plain));
+            assert_eq!((back.receipts, back.sequences), ([0; 16], [0; 16]));
+        }
+        let there_and_back = PlainState::from(&State::from(&noisy(3, 7)));
+        assert_eq!(there_and_back, noisy(3, 7));
+    }
+
+    #[test]
+    fn an_id_is_outstanding_for_its_own_account() {
+        let mut state = State::default();
+        state.enter(9, Entry::Receiver(2));
+        state.receipts[9] = Some(Receipt { id: 7, sequence: 1 });
+        assert!(state.is_outstanding(2, 7));
+        assert!(!state.is_outstanding(2, 8) && !state.is_outstanding(3, 7));
+        state.enter(9, Entry::Receiver(2));
+        assert!(!state.is_outstanding(2, 7));
     }
 }

@@ -1,9 +1,10 @@
 //! Taking octets: at most one PDU, from its frame to its reply.
 
-use super::account::{Account, Report};
-use super::book::BookRecord;
+use super::account::{with_id, Account, Report};
+use super::book::{BookRecord, BOOK_RECORD};
 use super::command::{self, RESPONSE};
 use super::fault::Fault;
+use super::message::{clear_mark, Place};
 use super::refusal::Refusal;
 use super::reply::{Body, Reply, LONGEST_REPLY};
 use super::request::{read_nothing, Bind, Cancel, Query, Replace, Submit};
@@ -44,7 +45,7 @@ impl Reference {
         if !entry.is_live() {
             return Err(Refusal::WrongEntry);
         }
-        self.check_bound_account(&records, state, entry)?;
+        self.check_bound_account(records.book, records.places, state, entry)?;
         let mut desk = Desk {
             records,
             state,
@@ -59,9 +60,10 @@ impl Reference {
     }
 
     /// An unbound session concerns no account; a bound one concerns its own only.
-    fn check_bound_account(
+    pub(super) fn check_bound_account(
         &self,
-        records: &Records<'_>,
+        book: &[[u8; BOOK_RECORD]],
+        places: &[Place],
         state: &State,
         entry: Entry,
     ) -> Result<(), Refusal> {
@@ -72,11 +74,11 @@ impl Reference {
         if account >= ACCOUNTS {
             return Err(Refusal::AccountIllFormed);
         }
-        check_account(records.book, records.places, state, account)?;
+        check_account(book, places, state, account)?;
         if self.errs(Fault::NeighbourRaisesNine) {
             for neighbour in 0..ACCOUNTS {
-                if BookRecord(&records.book[neighbour]).is_used() {
-                    check_account(records.book, records.places, state, neighbour)?;
+                if BookRecord(&book[neighbour]).is_used() {
+                    check_account(book, places, state, neighbour)?;
                 }
             }
         }
@@ -101,6 +103,8 @@ enum Frame<'a> {
 struct Pdu<'a> {
     length: usize,
     command: u32,
+    /// Only an answer to a receipt has one that is looked at.
+    status: u32,
     sequence: u32,
     body: &'a [u8],
 }
@@ -116,6 +120,7 @@ fn frame(octets: &[u8]) -> Result<Frame<'_>, Refusal> {
     Ok(Frame::Pdu(Pdu {
         length,
         command: header_word(4),
+        status: header_word(8),
         sequence: header_word(12),
         body: &pdu[HEADER..],
     }))
@@ -139,7 +144,7 @@ struct Desk<'a> {
 impl Desk<'_> {
     /// Nobody knows where the next PDU starts, so this is the session's end.
     fn end_session(&mut self, space: &mut [u8]) -> Taken {
-        self.state.entries[self.session] = Entry::Ended;
+        self.state.enter(self.session, Entry::Ended);
         Taken {
             consumed: LENGTH_FIELD,
             written: Reply::generic_nak(Status::CommandLength, 0).write(space),
@@ -156,6 +161,9 @@ impl Desk<'_> {
     /// Carries a PDU out and says what is to be replied; nothing, where it was a response.
     fn answer(&mut self, pdu: &Pdu<'_>) -> Option<Reply<'_>> {
         let (command, sequence, body) = (pdu.command, pdu.sequence, pdu.body);
+        if command == command::DELIVER_SM_RESP {
+            self.settle(pdu);
+        }
         let (status, reply_body) = match command {
             command::BIND_RECEIVER => (self.bind(body, Entry::Receiver), Body::SystemId),
             command::BIND_TRANSMITTER => (self.bind(body, Entry::Transmitter), Body::SystemId),
@@ -165,7 +173,7 @@ impl Desk<'_> {
             command::REPLACE_SM => (status_of(self.replace(body)), Body::Nothing),
             command::CANCEL_SM => (status_of(self.cancel(body)), Body::Nothing),
             command::ENQUIRE_LINK => (status_of(read_nothing(body)), Body::Nothing),
-            RESPONSE.. if self.fault != Some(Fault::ReplyToResponse) => return None,
+            RESPONSE.. if !self.errs(Fault::ReplyToResponse) => return None,
             _ => return Some(Reply::generic_nak(Status::CommandId, sequence)),
         };
         Some(Reply::new(command, status, sequence, reply_body))
@@ -173,6 +181,36 @@ impl Desk<'_> {
 
     fn entry(&self) -> Entry {
         self.state.entries[self.session]
+    }
+
+    /// The answer to the receipt that this receiver was sent: it is told, or it is owed again.
+    /// With another sequence number it is an answer to nothing.
+    fn settle(&mut self, pdu: &Pdu<'_>) {
+        let Some(receipt) = self.state.receipts[self.session] else {
+            return;
+        };
+        if receipt.sequence != pdu.sequence && !self.errs(Fault::AnySequenceClears) {
+            return;
+        }
+        self.state.receipts[self.session] = None;
+        if pdu.status == Status::Accepted.code() || self.errs(Fault::AnyStatusClears) {
+            self.acknowledge(receipt.id);
+        }
+    }
+
+    /// The message may be gone: the caller keeps the table.
+    fn acknowledge(&mut self, id: u32) {
+        let Entry::Receiver(account) = self.entry() else {
+            return;
+        };
+        let places = part_mut(self.records.places, usize::from(account));
+        if let Some(at) = with_id(places, id) {
+            clear_mark(&mut places[at]);
+        }
+    }
+
+    fn errs(&self, fault: Fault) -> bool {
+        self.fault == Some(fault)
     }
 
     fn bind(&mut self, body: &[u8], role: fn(u8) -> Entry) -> Status {
@@ -185,7 +223,7 @@ impl Desk<'_> {
         }
         let bind = Bind::read(body)?;
         let account = self.account_to_bind(&bind).ok_or(Status::Password)?;
-        self.state.entries[self.session] = role(account);
+        self.state.enter(self.session, role(account));
         Ok(())
     }
 
@@ -208,7 +246,7 @@ impl Desk<'_> {
             return Err(Status::BindStatus);
         }
         read_nothing(body)?;
-        self.state.entries[self.session] = Entry::Ended;
+        self.state.enter(self.session, Entry::Ended);
         Ok(())
     }
 

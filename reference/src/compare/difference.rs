@@ -4,7 +4,7 @@ use super::engine::Engine;
 use super::history::{History, Step};
 use super::tally::Tally;
 use super::world::{Answer, World};
-use crate::centre::{State, PLACE};
+use crate::centre::{PlainState, PLACE, SESSIONS};
 
 /// The first step after which two engines differ, and in what.
 #[derive(Clone, Debug, PartialEq, Eq)]
@@ -28,10 +28,12 @@ pub fn compare(
         let [one, other] = &mut worlds;
         one.clear_space();
         other.clear_space();
+        let before = one.state;
         let answers = [one.play(first, step), other.play(second, step)];
         one.copy_picked(first, step);
         other.copy_picked(second, step);
         tally.count(step, &answers[0], one.space());
+        tally.count_receipts(step, &before, &one.state);
         if let Some(what) = difference(step, &answers, one, other) {
             return Some(Difference {
                 step: nth,
@@ -58,30 +60,51 @@ fn difference(step: &Step, answers: &[Answer; 2], one: &World, other: &World) ->
 }
 
 fn answer_difference(step: &Step, [one, other]: &[Answer; 2]) -> Option<String> {
-    let unequal = |what: &str, a: usize, b: usize| (a != b).then(|| format!("{what}: {a} or {b}"));
-    unequal("number", one.number.into(), other.number.into())
-        .or_else(|| unequal("octets consumed", one.consumed, other.consumed))
-        .or_else(|| unequal("octets written", one.written, other.written))
+    let differ = |what: &str, a: usize, b: usize| unequal(what, [a, b].map(|n| n.to_string()));
+    differ("number", one.number.into(), other.number.into())
+        .or_else(|| differ("octets consumed", one.consumed, other.consumed))
+        .or_else(|| differ("octets written", one.written, other.written))
         .or_else(|| match step {
-            Step::Pick { .. } => unequal("picked record at", one.picked, other.picked),
+            Step::Pick { .. } => differ("picked record at", one.picked, other.picked),
             _ => None,
         })
 }
 
-/// States are compared by what they mean: a kind above 4 counts as ended.
+/// States are compared octet for octet: what isn't looked at comes back as it should too.
 fn state_difference(one: &World, other: &World) -> Option<String> {
-    let (one, other) = (State::from(&one.state), State::from(&other.state));
-    for (session, (a, b)) in one.entries.iter().zip(&other.entries).enumerate() {
-        if a != b {
-            return Some(format!("entry of session {session}: {a:?} or {b:?}"));
+    let (one, other) = (&one.state, &other.state);
+    if one == other {
+        return None;
+    }
+    for session in 0..SESSIONS {
+        let entries = [one, other].map(|state| entry_words(state, session));
+        if let Some(what) = unequal(&format!("session {session}"), entries) {
+            return Some(what);
         }
     }
-    for (account, (a, b)) in one.lasts.iter().zip(&other.lasts).enumerate() {
-        if a != b {
-            return Some(format!("last id of account {account}: {a:08X} or {b:08X}"));
+    for account in 0..one.lasts.len() {
+        let lasts = [one, other].map(|state| format!("{:08X}", state.lasts[account]));
+        if let Some(what) = unequal(&format!("last id of account {account}"), lasts) {
+            return Some(what);
         }
     }
     None
+}
+
+fn unequal(what: &str, [one, other]: [String; 2]) -> Option<String> {
+    (one != other).then(|| format!("{what}: {one} or {other}"))
+}
+
+/// All that the state says of a session.
+fn entry_words(state: &PlainState, session: usize) -> String {
+    format!(
+        "{:?} (kind {}, account {}), receipt {:08X} with sequence {}",
+        state.entry(session),
+        state.kinds[session],
+        state.accounts[session],
+        state.receipts[session],
+        state.sequences[session]
+    )
 }
 
 fn space_difference(one: &World, other: &World) -> Option<String> {

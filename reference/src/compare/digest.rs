@@ -3,7 +3,7 @@
 use super::engine::Engine;
 use super::history::History;
 use super::world::{Answer, World};
-use crate::centre::{PlainState, State};
+use crate::centre::PlainState;
 
 /// A number that depends on every octet it was given and on their order. It tells builds
 /// apart; it isn't meant to withstand anyone.
@@ -38,15 +38,15 @@ impl Digest {
         rest.iter().for_each(|&octet| self.number(octet.into()));
     }
 
-    /// The state by what it means, as comparisons take it.
+    /// The state as it is, as comparisons take it.
     fn state(&mut self, state: &PlainState) {
-        let plain = PlainState::from(&State::from(state));
-        self.octets(&plain.kinds);
-        self.octets(&plain.accounts);
-        plain
-            .lasts
-            .iter()
-            .for_each(|&last| self.number(last.into()));
+        self.octets(&state.kinds);
+        self.octets(&state.accounts);
+        let numbers = [&state.lasts[..], &state.receipts, &state.sequences];
+        numbers
+            .into_iter()
+            .flatten()
+            .for_each(|&number| self.number(number.into()));
     }
 
     fn answer(&mut self, answer: &Answer) {

@@ -1,6 +1,8 @@
 //! What can be played: the operations over lent octets and a plain state.
 
-use crate::centre::{Lent, PlainState, Reference, Refusal, Report, State, DONE, PLACE, TABLE};
+use crate::centre::{
+    Lent, PlainState, Reference, Refusal, Report, State, View, DONE, PLACE, TABLE,
+};
 
 /// The answer of opening and closing, laid out as the C interface has it.
 #[derive(Clone, Copy, Debug, PartialEq, Eq)]
@@ -16,6 +18,15 @@ pub struct Moved {
 pub struct Taken {
     pub number: u8,
     pub consumed: usize,
+    pub written: usize,
+    pub state: PlainState,
+}
+
+/// The answer of writing a receipt, laid out as the C interface has it.
+#[derive(Clone, Copy, Debug, PartialEq, Eq)]
+#[repr(C)]
+pub struct Delivered {
+    pub number: u8,
     pub written: usize,
     pub state: PlainState,
 }
@@ -38,6 +49,16 @@ pub trait Engine {
     fn take(&self, lent: Lent<'_>, state: &PlainState, sent: Sent<'_>, space: &mut [u8]) -> Taken;
 
     fn outcome(&self, lent: Lent<'_>, state: &PlainState, stamp: &[u8], report: Report) -> u8;
+
+    /// Writes a receipt for a session's peer, with this sequence number.
+    fn deliver(
+        &self,
+        view: View<'_>,
+        state: &PlainState,
+        session: usize,
+        sequence: u32,
+        space: &mut [u8],
+    ) -> Delivered;
 
     fn pick_number(&self, book: &[u8], table: &[u8], state: &PlainState, account: usize) -> u8;
 
@@ -99,6 +120,23 @@ impl Engine for Reference {
         ))
     }
 
+    fn deliver(
+        &self,
+        view: View<'_>,
+        state: &PlainState,
+        session: usize,
+        sequence: u32,
+        space: &mut [u8],
+    ) -> Delivered {
+        let mut after = State::from(state);
+        let result = Reference::deliver(self, view, &mut after, session, sequence, space);
+        Delivered {
+            number: number(result),
+            written: result.unwrap_or(0),
+            state: PlainState::from(&after),
+        }
+    }
+
     fn pick_number(&self, book: &[u8], table: &[u8], state: &PlainState, account: usize) -> u8 {
         number(self.pick(book, table, &State::from(state), account))
     }
@@ -139,4 +177,23 @@ fn moved(state: &PlainState, play: impl FnOnce(&mut State) -> Result<(), Refusal
 
 fn number<T>(result: Result<T, Refusal>) -> u8 {
     result.err().map_or(DONE, Refusal::number)
+}
+
+#[cfg(test)]
+mod tests {
+    use super::*;
+    use std::mem::{offset_of, size_of};
+
+    #[test]
+    fn answers_are_laid_out_as_the_header_says() {
+        assert_eq!(size_of::<Moved>(), 196);
+        assert_eq!(offset_of!(Moved, state), 4);
+        assert_eq!(size_of::<Taken>(), 216);
+        assert_eq!(offset_of!(Taken, consumed), 8);
+        assert_eq!(offset_of!(Taken, written), 16);
+        assert_eq!(offset_of!(Taken, state), 24);
+        assert_eq!(size_of::<Delivered>(), 208);
+        assert_eq!(offset_of!(Delivered, written), 8);
+        assert_eq!(offset_of!(Delivered, state), 16);
+    }
 }

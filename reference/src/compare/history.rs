@@ -1,6 +1,6 @@
 //! Histories: a book, and steps that any engine can play.
 
-use crate::centre::{Report, BOOK, LONGEST_REPLY, TABLE};
+use crate::centre::{Report, BOOK, LONGEST_RECEIPT, LONGEST_REPLY, TABLE};
 
 /// The stamp that is used where nothing depends on it.
 pub const PLAIN_STAMP: &[u8] = b"960701120000000+";
@@ -51,6 +51,28 @@ pub struct Outcome {
     pub report: Report,
 }
 
+/// A receipt is asked for.
+#[derive(Clone, Debug, PartialEq, Eq)]
+pub struct Deliver {
+    pub sizes: Sizes,
+    pub session: usize,
+    pub sequence: u32,
+    /// The size of the space that it is written to.
+    pub space: usize,
+}
+
+impl Deliver {
+    /// A call in which everything around the session is as it should be.
+    pub fn plain(session: usize, sequence: u32) -> Self {
+        Deliver {
+            sizes: Sizes::default(),
+            session,
+            sequence,
+            space: LONGEST_RECEIPT,
+        }
+    }
+}
+
 #[derive(Clone, Debug, PartialEq, Eq)]
 pub enum Step {
     Open {
@@ -61,6 +83,7 @@ pub enum Step {
     },
     Take(Take),
     Outcome(Outcome),
+    Deliver(Deliver),
     Pick {
         sizes: Sizes,
         account: usize,
@@ -70,6 +93,11 @@ pub enum Step {
         session: usize,
         kind: u8,
         account: u8,
+    },
+    SetReceipt {
+        session: usize,
+        id: u32,
+        sequence: u32,
     },
     SetLast {
         account: usize,

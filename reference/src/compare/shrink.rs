@@ -2,9 +2,9 @@
 
 use super::difference::compare;
 use super::engine::Engine;
-use super::history::{History, Outcome, Sizes, Step, Take, PLAIN_STAMP};
+use super::history::{Deliver, History, Outcome, Sizes, Step, Take, PLAIN_STAMP};
 use super::tally::Tally;
-use crate::centre::{BOOK_RECORD, LONGEST_REPLY, SESSIONS};
+use crate::centre::{BOOK_RECORD, LONGEST_RECEIPT, LONGEST_REPLY, SESSIONS};
 
 /// Leaves out and simplifies whatever can go while the engines still differ.
 pub fn shrink(first: &dyn Engine, second: &dyn Engine, history: &History) -> History {
@@ -120,8 +120,9 @@ impl Shrinker<'_> {
 fn rename_session(step: &mut Step, from: usize, to: usize) {
     let session = match step {
         Step::Open { session } | Step::Close { session } => session,
-        Step::SetEntry { session, .. } => session,
+        Step::SetEntry { session, .. } | Step::SetReceipt { session, .. } => session,
         Step::Take(take) => &mut take.session,
+        Step::Deliver(deliver) => &mut deliver.session,
         _ => return,
     };
     if *session == from {
@@ -159,6 +160,10 @@ fn simpler_steps(step: &Step) -> Vec<Step> {
             .into_iter()
             .map(Step::Outcome)
             .collect(),
+        Step::Deliver(deliver) => simpler_delivers(deliver)
+            .into_iter()
+            .map(Step::Deliver)
+            .collect(),
         Step::SetTable { at, octets } if octets.len() > 1 => {
             let (front, back) = octets.split_at(octets.len() / 2);
             [(*at, front), (*at + front.len(), back)]
@@ -195,6 +200,19 @@ fn simpler_takes(take: &Take) -> Vec<Take> {
         Take {
             octets: take.octets[..one_pdu.min(take.octets.len())].to_vec(),
             ..take.clone()
+        },
+    ]
+}
+
+fn simpler_delivers(deliver: &Deliver) -> Vec<Deliver> {
+    vec![
+        Deliver {
+            sizes: Sizes::default(),
+            ..deliver.clone()
+        },
+        Deliver {
+            space: LONGEST_RECEIPT,
+            ..deliver.clone()
         },
     ]
 }

@@ -2,6 +2,7 @@
 
 use super::history::Step;
 use super::world::Answer;
+use crate::centre::{command, PlainState, SESSIONS};
 use crate::explain::{command_name, Header};
 use std::collections::BTreeMap;
 use std::fmt;
@@ -15,6 +16,8 @@ pub struct Tally {
     pub replies: BTreeMap<(u32, u32), u64>,
     /// PDUs that were taken without a reply.
     pub silent: u64,
+    /// What became of the receipts that were outstanding, and of answers that settled none.
+    pub receipts: BTreeMap<&'static str, u64>,
 }
 
 impl Tally {
@@ -33,6 +36,24 @@ impl Tally {
                 *self.replies.entry(key).or_default() += 1;
             }
             None => self.silent += 1,
+        }
+    }
+
+    /// Looks at what a step did to the receipts that were outstanding before it.
+    pub fn count_receipts(&mut self, step: &Step, before: &PlainState, after: &PlainState) {
+        let mut count = |what| *self.receipts.entry(what).or_default() += 1;
+        let settled = (0..SESSIONS)
+            .filter(|&session| before.receipt(session).is_some())
+            .filter(|&session| before.receipt(session) != after.receipt(session))
+            .count();
+        let answer = answer_to_receipt(step);
+        match (step, answer) {
+            (Step::Close { .. }, _) if settled > 0 => count("closed"),
+            (Step::Take(_), Some(0)) if settled > 0 => count("acknowledged"),
+            (Step::Take(_), Some(_)) if settled > 0 => count("refused"),
+            (Step::Take(_), Some(_)) => count("not settled"),
+            (Step::Take(_), None) if settled > 0 => count("ended"),
+            _ => {}
         }
     }
 
@@ -56,9 +77,20 @@ fn operation(step: &Step) -> Option<&'static str> {
         Step::Close { .. } => Some("close"),
         Step::Take(_) => Some("octets"),
         Step::Outcome(_) => Some("outcome"),
+        Step::Deliver(_) => Some("deliver"),
         Step::Pick { .. } => Some("pick"),
         _ => None,
     }
+}
+
+/// The status of a deliver_sm_resp.
+fn answer_to_receipt(step: &Step) -> Option<u32> {
+    let Step::Take(take) = step else {
+        return None;
+    };
+    Header::of(&take.octets)
+        .filter(|header| header.command == command::DELIVER_SM_RESP)
+        .map(|header| header.status)
 }
 
 impl fmt::Display for Tally {
@@ -80,6 +112,11 @@ impl fmt::Display for Tally {
             }
             writeln!(f, "  status {status:2} {count:10}")?;
         }
-        writeln!(f, "no reply    {:10}", self.silent)
+        writeln!(f, "no reply    {:10}", self.silent)?;
+        writeln!(f, "receipts")?;
+        for (what, count) in &self.receipts {
+            writeln!(f, "  {what:14} {count:6}")?;
+        }
+        Ok(())
     }
 }

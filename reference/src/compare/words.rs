@@ -2,8 +2,8 @@
 
 use super::difference::Difference;
 use super::engine::Engine;
-use super::history::{History, Outcome, Sizes, Step, Take, PLAIN_STAMP};
-use crate::centre::{BookRecord, BOOK_RECORD, LONGEST_REPLY};
+use super::history::{Deliver, History, Outcome, Sizes, Step, Take, PLAIN_STAMP};
+use crate::centre::{BookRecord, BOOK_RECORD, LONGEST_RECEIPT, LONGEST_REPLY};
 use crate::explain;
 use crate::hex;
 use std::fmt;
@@ -91,6 +91,7 @@ impl fmt::Display for Step {
             Step::Close { session } => write!(f, "close {session}"),
             Step::Take(take) => write!(f, "{take}"),
             Step::Outcome(outcome) => write!(f, "{outcome}"),
+            Step::Deliver(deliver) => write!(f, "{deliver}"),
             Step::Pick { sizes, account } => write!(f, "pick {account}{sizes}"),
             Step::SetEntry {
                 session,
@@ -99,6 +100,14 @@ impl fmt::Display for Step {
             } => write!(
                 f,
                 "(entry of session {session} becomes kind {kind}, account {account})"
+            ),
+            Step::SetReceipt {
+                session,
+                id,
+                sequence,
+            } => write!(
+                f,
+                "(receipt of session {session} becomes id {id:08X}, sequence {sequence})"
             ),
             Step::SetLast { account, last } => {
                 write!(f, "(last id of account {account} becomes {last:08X})")
@@ -128,6 +137,17 @@ impl fmt::Display for Take {
         }
         if let Some(request) = explain::request(&self.octets) {
             write!(f, "\n      {request}")?;
+        }
+        Ok(())
+    }
+}
+
+impl fmt::Display for Deliver {
+    fn fmt(&self, f: &mut fmt::Formatter<'_>) -> fmt::Result {
+        write!(f, "deliver {} {}", self.session, self.sequence)?;
+        write!(f, "{}", self.sizes)?;
+        if self.space != LONGEST_RECEIPT {
+            write!(f, "  [space {}]", self.space)?;
         }
         Ok(())
     }

@@ -1,8 +1,8 @@
 //! What a caller keeps between calls, and how a step is played on it.
 
 use super::engine::{Engine, Sent};
-use super::history::{History, Outcome, Sizes, Step, Take};
-use crate::centre::{Lent, PlainState, BOOK, PLACE, TABLE};
+use super::history::{Deliver, History, Outcome, Sizes, Step, Take};
+use crate::centre::{Lent, PlainState, View, BOOK, PLACE, TABLE};
 
 /// Octets behind the book and the table, for calls that lend too much.
 const BEHIND: usize = 256;
@@ -95,6 +95,7 @@ impl World {
             }
             Step::Take(take) => self.take(engine, take),
             Step::Outcome(outcome) => self.outcome(engine, outcome),
+            Step::Deliver(deliver) => self.deliver(engine, deliver),
             Step::Pick { sizes, account } => self.pick(engine, *sizes, *account),
             _ => self.tamper(step),
         }
@@ -136,6 +137,20 @@ impl World {
         }
     }
 
+    fn deliver(&mut self, engine: &dyn Engine, deliver: &Deliver) -> Answer {
+        let Sizes { book, table } = deliver.sizes;
+        let view = View::new(&self.book[..book], &self.table[..table]);
+        let (session, sequence) = (deliver.session, deliver.sequence);
+        let space = &mut self.space[..deliver.space];
+        let delivered = engine.deliver(view, &self.state, session, sequence, space);
+        self.state = delivered.state;
+        Answer {
+            number: delivered.number,
+            written: delivered.written,
+            ..Answer::default()
+        }
+    }
+
     /// After a pick: its record copied too, for every fourth account to a space that is one
     /// octet too short.
     pub fn copy_picked(&mut self, engine: &dyn Engine, step: &Step) {
@@ -169,6 +184,14 @@ impl World {
             } => {
                 self.state.kinds[*session] = *kind;
                 self.state.accounts[*session] = *account;
+            }
+            Step::SetReceipt {
+                session,
+                id,
+                sequence,
+            } => {
+                self.state.receipts[*session] = *id;
+                self.state.sequences[*session] = *sequence;
             }
             Step::SetLast { account, last } => self.state.lasts[*account] = *last,
             Step::SetBook { at, octets } => put(&mut self.book, *at, octets),

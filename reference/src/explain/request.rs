@@ -1,6 +1,6 @@
 //! Says in words what a request asks for, as far as its fields can be read.
 
-use super::{command_name, time_words, Header};
+use super::{command_name, status_name, stored_state_name, time_words, Header};
 use crate::centre::command;
 
 /// How a field is laid out, which is all that is needed to put it into words. Whether its
@@ -28,6 +28,7 @@ const BIND: &[Field] = &[
 
 const QUERY: &[Field] = &[Text("id"), Party("source")];
 
+/// deliver_sm has these too.
 const SUBMIT: &[Field] = &[
     Text("service_type"),
     Party("source"),
@@ -64,17 +65,37 @@ const REPLACE: &[Field] = &[
 /// The first PDU among the octets in words; none where there isn't even a header.
 pub fn request(octets: &[u8]) -> Option<String> {
     let header = Header::of(octets)?;
+    Some(in_words(&header, octets))
+}
+
+/// The PDU that begins with this header.
+pub fn in_words(header: &Header, octets: &[u8]) -> String {
     let name = command_name(header.command).unwrap_or("unknown command");
     let mut words = format!("{name}, sequence {}", header.sequence);
+    if header.command == command::DELIVER_SM_RESP {
+        let status = header.status;
+        words += &format!(", status {status} ({})", status_name(status));
+    }
     let Some(fields) = fields(header.command) else {
-        return Some(words);
+        return words;
     };
     let end = octets.len().min(header.length as usize).max(16);
-    let mut rest = &octets[16..end];
+    let body = &octets[16..end];
+    words += &fields_words(fields, body);
+    if header.command == command::DELIVER_SM {
+        words += &receipt_words(body);
+    }
+    words
+}
+
+/// Each field in turn, as far as the body goes.
+fn fields_words(fields: &[Field], body: &[u8]) -> String {
+    let mut words = String::new();
+    let mut rest = body;
     for field in fields {
         let Some((said, behind)) = field.say(rest) else {
             words += ", and then it ends early";
-            return Some(words);
+            return words;
         };
         words += ", ";
         words += &said;
@@ -83,15 +104,33 @@ pub fn request(octets: &[u8]) -> Option<String> {
     if !rest.is_empty() {
         words += &format!(", {} octets left over", rest.len());
     }
-    Some(words)
+    words
 }
 
-/// The fields of a request; none for responses and unknown commands.
+/// What a receipt's text tells; nothing where the body doesn't end in one.
+fn receipt_words(body: &[u8]) -> String {
+    let told = body.last_chunk::<18>().and_then(|text| {
+        let rest = text.strip_prefix(b"id:")?;
+        let (id, rest) = rest.split_at(8);
+        let digit = rest.strip_prefix(b" stat:")?.first()?;
+        Some((id, digit.wrapping_sub(b'0')))
+    });
+    match told {
+        None => String::new(),
+        Some((id, state)) => format!(
+            ": message {} is {}",
+            id.escape_ascii(),
+            stored_state_name(state)
+        ),
+    }
+}
+
+/// The fields of a request; none for responses, of which no body is read, and unknown commands.
 fn fields(command: u32) -> Option<&'static [Field]> {
     match command {
         command::BIND_RECEIVER | command::BIND_TRANSMITTER => Some(BIND),
         command::QUERY_SM => Some(QUERY),
-        command::SUBMIT_SM => Some(SUBMIT),
+        command::SUBMIT_SM | command::DELIVER_SM => Some(SUBMIT),
         command::CANCEL_SM => Some(CANCEL),
         command::REPLACE_SM => Some(REPLACE),
         command::UNBIND | command::ENQUIRE_LINK => Some(&[]),

@@ -81,7 +81,7 @@ impl Generator {
     }
 
     /// Among them numbers that look right in their lowest octets.
-    fn a_bad_session(&mut self) -> usize {
+    pub(super) fn a_bad_session(&mut self) -> usize {
         self.a_number_above(SESSIONS)
     }
 
@@ -97,7 +97,7 @@ impl Generator {
         self.random.choose(&numbers)
     }
 
-    fn bad_sizes(&mut self) -> Sizes {
+    pub(super) fn bad_sizes(&mut self) -> Sizes {
         let mut sizes = Sizes::default();
         if self.manner == Manner::Records {
             return sizes;

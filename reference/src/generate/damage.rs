@@ -41,6 +41,10 @@ impl Generator {
         if self.manner == Manner::Records {
             octets.truncate(512);
         }
+        self.take_one_by_one(session, octets);
+    }
+
+    pub(super) fn take_one_by_one(&mut self, session: usize, mut octets: Vec<u8>) {
         while !octets.is_empty() {
             let take = self.take(session, octets.clone());
             let answer = self.push(Step::Take(take));

@@ -60,6 +60,10 @@ fn well_formed(random: &mut Random, state: u8, id: u32, callback: &[u8]) -> Plac
     if matches!(state, 2 | 3 | 5) {
         place[layout::ERROR] = random.octet();
     }
+    // Some receipts are acknowledged already.
+    if state != 1 && !id.is_multiple_of(3) {
+        place[layout::MARK] = place[layout::REGISTERED];
+    }
     place
 }
 
@@ -149,7 +153,7 @@ fn hurt_end(random: &mut Random, place: &mut Place) {
         4 => place[layout::FINAL_DATE].copy_from_slice(&texts::time(random)),
         5 => place[layout::FINAL_DATE].copy_from_slice(&texts::bad_time(random)),
         6 => place[layout::ERROR] = 1 + random.octet() % 255,
-        7 => place[layout::SPARE][random.below(6)] = 1,
+        7 => place[layout::MARK + random.below(6)] = 1,
         _ => place[layout::LENGTH] = place[layout::LENGTH].saturating_add(1),
     }
 }

@@ -1,6 +1,6 @@
 //! Requests that are meant to succeed, most of the time.
 
-use super::{texts, Generator};
+use super::{texts, Generator, Manner};
 use crate::centre::{BookRecord, Message, Party, Place, Report, BOOK_RECORD};
 use crate::compose::{Address, Bind, Cancel, Query, Replace, Role, Submit, Text};
 use crate::random::Random;
@@ -23,7 +23,7 @@ const DESTINATIONS: [(u8, u8, &[u8]); 5] = [
 ];
 
 impl Generator {
-    fn book_record(&self, account: usize) -> BookRecord<'_> {
+    pub(super) fn book_record(&self, account: usize) -> BookRecord<'_> {
         let records: &[[u8; BOOK_RECORD]] = self.world.book().as_chunks().0;
         BookRecord(&records[account])
     }
@@ -58,8 +58,18 @@ impl Generator {
         bind
     }
 
+    /// How many messages in a hundred ask for a receipt. Records can't have it written, so that
+    /// such messages would soon take up every place.
+    fn registered(&self, usual: usize) -> usize {
+        match self.manner {
+            Manner::Records => 3,
+            _ => usual,
+        }
+    }
+
     pub(super) fn submit(&mut self, account: usize) -> Submit {
         let source = self.a_source(account);
+        let registered = self.registered(30);
         let random = &mut self.random;
         let default_id = random.choose(&[0, 0, 0, 0, 0, 0, 1, 100]);
         let text = if default_id == 0 {
@@ -76,7 +86,7 @@ impl Generator {
             priority: u8::from(random.percent(25)),
             schedule: maybe_time(random),
             validity: maybe_time(random),
-            registered: u8::from(random.percent(30)),
+            registered: u8::from(random.percent(registered)),
             replace_if_present: u8::from(random.percent(20)),
             data_coding: seldom_free(random),
             text: Text {
@@ -128,6 +138,7 @@ impl Generator {
     pub(super) fn replace(&mut self, account: usize) -> Replace {
         let place = self.a_waiting_place(account);
         let (id, source) = (self.id_of(account, place), self.source_of(account, place));
+        let registered = self.registered(50);
         let random = &mut self.random;
         let default_id = random.choose(&[0, 0, 0, 2, 100]);
         let text = if default_id == 0 {
@@ -140,7 +151,7 @@ impl Generator {
             source,
             schedule: maybe_time(random),
             validity: maybe_time(random),
-            registered: u8::from(random.percent(50)),
+            registered: u8::from(random.percent(registered)),
             text: Text {
                 default_id,
                 forced_length: None,

@@ -21,7 +21,7 @@ impl Generator {
             return;
         }
         let account = self.an_account();
-        if self.wounds.iter().any(|wound| wound.account == account) {
+        if self.is_wounded(account) {
             return;
         }
         self.remember(account);
@@ -34,7 +34,11 @@ impl Generator {
         self.look_at(account);
     }
 
-    fn remember(&mut self, account: usize) {
+    pub(super) fn is_wounded(&self, account: usize) -> bool {
+        self.wounds.iter().any(|wound| wound.account == account)
+    }
+
+    pub(super) fn remember(&mut self, account: usize) {
         let delay = self.random.between(3, 9);
         self.wounds.push(Wound {
             heals_at: self.history.steps.len() + delay,
@@ -67,7 +71,7 @@ impl Generator {
     }
 
     /// Touches the account in every way in which it can be concerned.
-    fn look_at(&mut self, account: usize) {
+    pub(super) fn look_at(&mut self, account: usize) {
         let bound = |session: &usize| {
             self.world.state.entry(*session).account().map(usize::from) == Some(account)
         };
@@ -156,7 +160,7 @@ impl Generator {
             .unwrap_or(first)
     }
 
-    fn set_place(&mut self, account: usize, nth: usize, place: &Place) {
+    pub(super) fn set_place(&mut self, account: usize, nth: usize, place: &Place) {
         let at = PART * account + PLACE * nth;
         let octets = place.to_vec();
         self.push(Step::SetTable { at, octets });

@@ -1,8 +1,9 @@
-//! What a call is expected to answer. Replies are laid out here as the outline says, by no
-//! code of an engine.
+//! What a call is expected to answer. Replies and receipts are laid out here as the documents
+//! say, by no code of an engine.
 
 use crate::centre::{command, PART, PLACE, PLACES, TABLE};
 use crate::compare::{Answer, Step, World};
+use crate::compose::{pdu, Address};
 use crate::explain::Header;
 use crate::hex;
 use crate::script::words::{unexpected, Words};
@@ -20,6 +21,7 @@ impl Expected {
         match step {
             Step::Pick { account, .. } => picked(words, *account),
             Step::Take(take) => taken(words, &take.octets),
+            Step::Deliver(deliver) => delivered(words, deliver.sequence),
             _ => numbered(words),
         }
     }
@@ -73,6 +75,7 @@ impl Expected {
             Step::Take(_) if consumed == 0 && written == 0 => format!("{number}"),
             Step::Take(_) if written == 0 => format!("{number} {consumed} -"),
             Step::Take(_) => format!("{number} {consumed} {}", hex::text(&self.reply)),
+            Step::Deliver(_) if written > 0 => format!("{number} {}", hex::text(&self.reply)),
             _ => format!("{number}"),
         }
     }
@@ -125,11 +128,7 @@ fn in_full(number: u8, mut words: Words) -> Result<Expected, String> {
         .text()
         .parse()
         .map_err(|_| unexpected("a consumed count", &consumed))?;
-    let mut digits = String::new();
-    while let Some(word) = words.any() {
-        digits += &word.text();
-    }
-    let reply = match digits.as_str() {
+    let reply = match rest(words).as_str() {
         "" => return Err("expected a reply in hex or -, found the end of the line".to_string()),
         "-" => Vec::new(),
         digits => hex::octets(digits)?,
@@ -137,6 +136,62 @@ fn in_full(number: u8, mut words: Words) -> Result<Expected, String> {
     let mut expected = Expected::replied(consumed, reply);
     expected.answer.number = number;
     Ok(expected)
+}
+
+/// All words up to the end of the line, as one.
+fn rest(mut words: Words) -> String {
+    let mut rest = String::new();
+    while let Some(word) = words.any() {
+        rest += &word.text();
+    }
+    rest
+}
+
+/// A number alone, a number and a deliver_sm in hex, or a receipt in short.
+fn delivered(mut words: Words, sequence: u32) -> Result<Expected, String> {
+    let what = "a number or receipt";
+    let first = words.word(what)?;
+    if first.is("receipt") {
+        return receipt(words, sequence);
+    }
+    let number = first.text().parse();
+    let number = number.map_err(|_| unexpected(what, &first))?;
+    let mut expected = Expected::replied(0, hex::octets(&rest(words))?);
+    expected.answer.number = number;
+    Ok(expected)
+}
+
+/// `ID state N from SOURCE to DESTINATION`, both as the receipt has them.
+fn receipt(mut words: Words, sequence: u32) -> Result<Expected, String> {
+    let id = words.id()?;
+    words.keyword("state")?;
+    let state = words.octet("a state")?;
+    words.keyword("from")?;
+    let source = words.address("a source")?;
+    words.keyword("to")?;
+    let destination = words.address("a destination")?;
+    words.end()?;
+    let text = format!("id:{id:08X} stat:{state}").into_bytes();
+    let body = [
+        // service_type, and then who it is from and who it is to
+        vec![0],
+        address(&source),
+        address(&destination),
+        // esm_class, protocol id, priority
+        vec![4, 0, 0],
+        // schedule time, validity time
+        vec![0, 0],
+        // registered flag, replace flag, data coding, default id
+        vec![0, 0, 0, 0],
+        vec![text.len() as u8],
+        text,
+    ];
+    let deliver_sm = pdu(5, sequence, &body.concat());
+    Ok(Expected::replied(0, deliver_sm))
+}
+
+fn address(address: &Address) -> Vec<u8> {
+    [&[address.ton, address.npi][..], &address.text, &[0]].concat()
 }
 
 /// The header of octets that are one whole request of the eight.

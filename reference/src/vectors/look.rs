@@ -7,7 +7,7 @@ use crate::compare::World;
 use crate::compose::{Address, Submit};
 use crate::hex;
 use crate::script::book::account;
-use crate::script::orders::submission;
+use crate::script::steps::submission;
 use crate::script::words::{unexpected, Word, Words};
 
 #[derive(Clone, Debug, PartialEq, Eq)]
@@ -16,6 +16,12 @@ pub enum Look {
         session: usize,
         entry: Entry,
     },
+    /// The id and the sequence number as they stand in the state: both 0 for none.
+    Outstanding {
+        session: usize,
+        id: u32,
+        sequence: u32,
+    },
     Last {
         account: usize,
         last: u32,
@@ -23,6 +29,10 @@ pub enum Look {
     States {
         account: usize,
         states: Vec<u32>,
+    },
+    Marks {
+        account: usize,
+        marks: Vec<u32>,
     },
     Ids {
         account: usize,
@@ -45,6 +55,15 @@ impl Look {
                 session: session(&mut words)?,
                 entry: entry(words)?,
             },
+            "outstanding" => {
+                let session = session(&mut words)?;
+                let (id, sequence) = outstanding(words)?;
+                Look::Outstanding {
+                    session,
+                    id,
+                    sequence,
+                }
+            }
             "last" => {
                 let (account, last) = (account(&mut words)?, words.id()?);
                 words.end()?;
@@ -53,6 +72,10 @@ impl Look {
             "states" => Look::States {
                 account: account(&mut words)?,
                 states: sixteen(words, 10)?,
+            },
+            "marks" => Look::Marks {
+                account: account(&mut words)?,
+                marks: sixteen(words, 10)?,
             },
             "ids" => Look::Ids {
                 account: account(&mut words)?,
@@ -79,6 +102,15 @@ impl Look {
     pub fn difference(&self, before: &World, world: &World) -> Option<(String, String)> {
         match self {
             Look::Entry { session, entry } => unequal(entry, &world.state.entry(*session)),
+            Look::Outstanding {
+                session,
+                id,
+                sequence,
+            } => {
+                let (state, session) = (&world.state, *session);
+                let found = (state.receipts[session], state.sequences[session]);
+                unequal(&(*id, *sequence), &found)
+            }
             Look::Last { account, last } => {
                 let found = world.state.lasts[*account];
                 (*last != found).then(|| (format!("{last:08X}"), format!("{found:08X}")))
@@ -86,6 +118,10 @@ impl Look {
             Look::States { account, states } => {
                 let found = of_places(world, *account, |record| u32::from(record[0]));
                 unequal(states, &found)
+            }
+            Look::Marks { account, marks } => {
+                let found = of_places(world, *account, |record| u32::from(record[250]));
+                unequal(marks, &found)
             }
             Look::Ids { account, ids } => {
                 let found = of_places(world, *account, |record| {
@@ -181,6 +217,16 @@ pub fn entry(mut words: Words) -> Result<Entry, String> {
     Ok(entry)
 }
 
+/// `none`, or an id and a sequence number.
+pub fn outstanding(mut words: Words) -> Result<(u32, u32), String> {
+    let mut receipt = (0, 0);
+    if !words.next_if("none") {
+        receipt = (words.id()?, words.number("a sequence number")?);
+    }
+    words.end()?;
+    Ok(receipt)
+}
+
 fn sixteen(words: Words, radix: u32) -> Result<Vec<u32>, String> {
     let number = |word: &Word| {
         u32::from_str_radix(&word.text(), radix).map_err(|_| unexpected("a number", word))
@@ -225,7 +271,8 @@ fn range(word: &Word) -> Result<(usize, usize), String> {
     }
 }
 
-/// A record in words: `empty`, or state and id, `final` and `error`, and what was submitted.
+/// A record in words: `empty`, or state and id, `final`, `error` and `marked`, and what was
+/// submitted.
 fn record(mut words: Words) -> Result<Vec<u8>, String> {
     let states = [
         "empty",
@@ -241,23 +288,27 @@ fn record(mut words: Words) -> Result<Vec<u8>, String> {
         return Ok(vec![0; PLACE]);
     }
     let id = words.id()?;
-    let mut ended = (Vec::new(), 0);
+    let mut ending = Ending::default();
     if words.next_if("final") {
-        ended.0 = words.octets("a final date")?;
+        ending.date = words.octets("a final date")?;
     }
     if words.next_if("error") {
-        ended.1 = words.octet("an error code")?;
+        ending.error = words.octet("an error code")?;
     }
-    laid_out(state, id, &submission(words)?, ended)
+    ending.mark = words.next_if("marked").into();
+    laid_out(state, id, &submission(words)?, &ending)
+}
+
+/// What a message has besides when it is finished.
+#[derive(Default)]
+struct Ending {
+    date: Vec<u8>,
+    error: u8,
+    mark: u8,
 }
 
 /// The outline's table, line by line.
-fn laid_out(
-    state: u8,
-    id: u32,
-    message: &Submit,
-    (date, error): (Vec<u8>, u8),
-) -> Result<Vec<u8>, String> {
+fn laid_out(state: u8, id: u32, message: &Submit, ending: &Ending) -> Result<Vec<u8>, String> {
     let record = [
         vec![state],
         id.to_be_bytes().to_vec(),
@@ -270,9 +321,9 @@ fn laid_out(
         vec![message.registered, message.data_coding],
         vec![message.text.default_id, message.text.octets.len() as u8],
         padded(&message.text.octets, 140)?,
-        padded(&date, 16)?,
-        vec![error],
-        vec![0; 6],
+        padded(&ending.date, 16)?,
+        vec![ending.error, ending.mark],
+        vec![0; 5],
     ];
     Ok(record.concat())
 }

@@ -2,6 +2,7 @@
 
 use super::expected::Expected;
 use super::read::{Case, Does, Line};
+use crate::centre::State;
 use crate::compare::{Engine, History, Step, World};
 use crate::explain::Header;
 use std::fmt;
@@ -46,7 +47,7 @@ pub fn play(case: &Case, engine: &dyn Engine) -> Result<usize, Failure> {
                 world.clear_space();
                 before = world.clone();
                 call(line, step, expected, &mut world, engine)?;
-                kept(line, expected, &before, &world)?;
+                kept(line, step, expected, &before, &world)?;
                 calls += 1;
             }
         }
@@ -79,14 +80,24 @@ fn call(
 }
 
 /// What every call keeps, whatever the line says besides.
-fn kept(line: &Line, expected: &Expected, before: &World, world: &World) -> Result<(), Failure> {
+fn kept(
+    line: &Line,
+    step: &Step,
+    expected: &Expected,
+    before: &World,
+    world: &World,
+) -> Result<(), Failure> {
     let written = expected.answer.written;
     let refused = expected.answer.number != 0;
     let declined = Header::of(&expected.reply).is_some_and(|reply| reply.status != 0);
     let same_messages = before.table_and_behind() == world.table_and_behind()
         && before.state.lasts == world.state.lasts;
-    let broken = if refused && before != world {
+    // The state that comes back stands for the one that was passed.
+    let same_state = State::from(&before.state) == State::from(&world.state);
+    let broken = if refused && !(same_messages && same_state) {
         "a refused call changes nothing"
+    } else if matches!(step, Step::Deliver(_)) && !same_messages {
+        "a receipt that is written changes no message and no last id"
     } else if declined && !same_messages {
         "a refused request changes no message and no last id"
     } else if before.space()[written..] != world.space()[written..] {

@@ -1,14 +1,16 @@
 //! Lines into cases.
 
 use super::expected::Expected;
-use super::look::{entry, record_start, session, Look};
+use super::look::{entry, outstanding, record_start, session, Look};
 use super::pieces;
-use crate::centre::{PlainState, BOOK_RECORD, LONGEST_REPLY, PLACE};
-use crate::compare::{Outcome, Sizes, Step, Take, PLAIN_STAMP};
+use crate::centre::{
+    command::RESPONSE, PlainState, BOOK_RECORD, LONGEST_RECEIPT, LONGEST_REPLY, PLACE,
+};
+use crate::compare::{Deliver, Outcome, Sizes, Step, Take, PLAIN_STAMP};
 use crate::compose::pdu;
 use crate::explain::command_name;
 use crate::script::book::{account, record};
-use crate::script::orders::{only_session, report, request};
+use crate::script::steps::{answer, only_session, receipt, report, request};
 use crate::script::words::{unexpected, Word, Words};
 use crate::script::ScriptError;
 
@@ -75,7 +77,8 @@ pub fn read(text: &str) -> Result<Vec<Case>, ScriptError> {
 struct Settings {
     stamp: Vec<u8>,
     sequence: u32,
-    space: usize,
+    /// As much as the call needs, unless a line says otherwise.
+    space: Option<usize>,
     sizes: Sizes,
 }
 
@@ -84,15 +87,15 @@ impl Default for Settings {
         Settings {
             stamp: PLAIN_STAMP.to_vec(),
             sequence: 1,
-            space: LONGEST_REPLY,
+            space: None,
             sizes: Sizes::default(),
         }
     }
 }
 
-const CALLS: [&str; 13] = [
+const CALLS: [&str; 15] = [
     "open", "close", "bind", "submit", "query", "cancel", "replace", "unbind", "enquire", "octets",
-    "pdu", "outcome", "pick",
+    "pdu", "outcome", "pick", "deliver", "answer",
 ];
 
 const LINES: &str = "a case, a call, something to look at or something to set";
@@ -121,7 +124,7 @@ impl Settings {
         match first.text().as_str() {
             "stamp" => self.stamp = words.octets("a stamp")?,
             "sequence" => self.sequence = words.number("a sequence number")?,
-            "space" => self.space = words.number("a size")? as usize,
+            "space" => self.space = Some(words.number("a size")? as usize),
             "lend" => {
                 self.sizes = Sizes {
                     book: words.number("a size of the book")? as usize,
@@ -163,6 +166,11 @@ impl Settings {
                 stamp: self.stamp.clone(),
                 report: report(words)?.for_centre(),
             }),
+            "deliver" => self.deliver(words)?,
+            "answer" => {
+                let (session, octets) = answer(words)?;
+                self.take(session, octets)
+            }
             "octets" => {
                 let session = words.octet("a session number")?;
                 self.take(session, pieces::octets(words)?)
@@ -183,6 +191,17 @@ impl Settings {
         })
     }
 
+    fn deliver(&self, mut words: Words) -> Result<Step, String> {
+        let (session, sequence) = receipt(&mut words)?;
+        words.end()?;
+        Ok(Step::Deliver(Deliver {
+            sizes: self.sizes,
+            session: session.into(),
+            sequence,
+            space: self.space.unwrap_or(LONGEST_RECEIPT),
+        }))
+    }
+
     fn next_sequence(&mut self) -> u32 {
         let sequence = self.sequence;
         self.sequence = sequence.wrapping_add(1);
@@ -195,7 +214,7 @@ impl Settings {
             session: session.into(),
             octets,
             stamp: self.stamp.clone(),
-            space: self.space,
+            space: self.space.unwrap_or(LONGEST_REPLY),
         })
     }
 }
@@ -203,14 +222,16 @@ impl Settings {
 /// A command by its name, or by its id in hex.
 fn command(word: &Word) -> Result<u32, String> {
     let text = word.text();
-    let named = (0..=0x15).find(|&id| command_name(id) == Some(text.as_str()));
+    let named = (0..=0x15)
+        .flat_map(|id| [id, RESPONSE | id])
+        .find(|&id| command_name(id) == Some(text.as_str()));
     named
         .or_else(|| u32::from_str_radix(&text, 16).ok())
         .ok_or_else(|| unexpected("a command's name or its id in hex", word))
 }
 
 fn put(mut words: Words) -> Result<Step, String> {
-    match words.one_of(&["book", "record", "last", "entry"])? {
+    match words.one_of(&["book", "record", "last", "entry", "outstanding"])? {
         0 => {
             let start = BOOK_RECORD * account(&mut words)?;
             let (at, octets) = pieces::stretch(words, BOOK_RECORD)?;
@@ -232,7 +253,16 @@ fn put(mut words: Words) -> Result<Step, String> {
             words.end()?;
             Ok(Step::SetLast { account, last })
         }
-        _ => put_entry(words),
+        3 => put_entry(words),
+        _ => {
+            let session = session(&mut words)?;
+            let (id, sequence) = outstanding(words)?;
+            Ok(Step::SetReceipt {
+                session,
+                id,
+                sequence,
+            })
+        }
     }
 }
 

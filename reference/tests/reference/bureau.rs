@@ -1,10 +1,10 @@
 //! A small world for the tests: a book of three accounts and a centre to call.
 
 use reference::centre::{
-    Entry, Lent, Place, Reference, Refusal, Report, State, Taken, BOOK, LONGEST_REPLY, PART, PLACE,
-    TABLE,
+    Entry, Lent, Place, Reference, Refusal, Report, State, Taken, View, BOOK, LONGEST_RECEIPT,
+    LONGEST_REPLY, PART, PLACE, TABLE,
 };
-use reference::compose::{Address, Bind, Request, Role, Submit};
+use reference::compose::{deliver_sm_resp, Address, Bind, Request, Role, Submit};
 use reference::explain::Header;
 
 pub const STAMP: &[u8; 16] = b"960701120000000+";
@@ -111,6 +111,32 @@ impl Bureau {
         Reference::sound().outcome(lent, &self.state, &self.stamp, report)
     }
 
+    pub fn deliver_into(
+        &mut self,
+        session: usize,
+        sequence: u32,
+        space: &mut [u8],
+    ) -> Result<usize, Refusal> {
+        let view = View::new(&self.book, &self.table);
+        Reference::sound().deliver(view, &mut self.state, session, sequence, space)
+    }
+
+    /// The receipt that is written, and the id that it has in its text.
+    pub fn deliver(&mut self, session: usize, sequence: u32) -> Result<(u32, Vec<u8>), Refusal> {
+        let mut space = [0xEE; LONGEST_RECEIPT];
+        let written = self.deliver_into(session, sequence, &mut space)?;
+        assert!(space[written..].iter().all(|&octet| octet == 0xEE));
+        let text = std::str::from_utf8(&space[written - 15..written - 7]).unwrap();
+        let id = u32::from_str_radix(text, 16).unwrap();
+        Ok((id, space[..written].to_vec()))
+    }
+
+    /// The answer to a receipt, which nothing is replied to.
+    pub fn answer(&mut self, session: usize, status: u32, sequence: u32) {
+        let octets = deliver_sm_resp(status, sequence, &[0]);
+        assert_eq!(self.take(session, &octets), Ok((17, vec![])));
+    }
+
     pub fn pick(&self, account: usize) -> Result<usize, Refusal> {
         Reference::sound().pick(&self.book, &self.table, &self.state, account)
     }
@@ -139,6 +165,14 @@ pub fn bind(role: Role, system_id: &[u8], password: &[u8], system_type: &[u8]) -
 
 pub fn to(text: &[u8]) -> Address {
     Address::new(1, 1, text)
+}
+
+/// One that a receipt is wanted for.
+pub fn registered_submit() -> Submit {
+    Submit {
+        registered: 1,
+        ..plain_submit()
+    }
 }
 
 /// A submission that is accepted: from the callback, with a text.

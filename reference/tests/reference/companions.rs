@@ -1,12 +1,13 @@
 //! The companions for people: scripts, books and explanations.
 
 use crate::bureau::STAMP;
-use reference::compose::{Address, Query, Request};
+use reference::compare::{Deliver, Step, Take};
+use reference::compose::{deliver_sm_resp, Address, Query, Request};
 use reference::explain;
 use reference::generate::{history, Manner};
 use reference::printing::{run, Order};
 use reference::recorded;
-use reference::script::{book, orders};
+use reference::script::{book, orders, steps};
 
 const BOOK: &str = "account 0 paging secret VMA callback 1/1/447700900000\n\
                     account 7 last \"\" \"\" callback 5\n";
@@ -97,6 +98,55 @@ fn the_examples_can_be_read() {
 }
 
 #[test]
+fn a_receipt_and_its_answer_are_steps_that_no_record_says() {
+    let text = "deliver 1 700\nanswer 1 700\nanswer 2 701 status 8\n";
+    let read = steps(text).unwrap();
+    let answer = |session, status, sequence| {
+        Step::Take(Take::plain(
+            session,
+            deliver_sm_resp(status, sequence, &[0]),
+        ))
+    };
+    let expected = [
+        Step::Deliver(Deliver::plain(1, 700)),
+        answer(1, 0, 700),
+        answer(2, 8, 701),
+    ];
+    assert!(read.iter().map(|scripted| &scripted.step).eq(&expected));
+    assert_eq!(
+        orders(text).unwrap_err().to_string(),
+        "line 1: expected a step that a record can say, found \"deliver 1 700\""
+    );
+    assert!(orders("answer 1 700").is_ok());
+    let steps = steps(include_str!("../../examples/receipts.script")).unwrap();
+    let receipts = steps.iter().filter(|s| matches!(s.step, Step::Deliver(_)));
+    assert!(receipts.count() > 5);
+}
+
+#[test]
+fn receipts_and_their_answers_in_words() {
+    let receipt = "0000004B 00000005 00000000 000002BC 00 0101 343437373030393030313233 00 \
+                   0101 343437373030393030303030 00 040000 0000 00000000 12 \
+                   69643A 3030303030303031 20737461743A 32";
+    assert_eq!(
+        explain::line(&format!("0 0 {}", receipt.replace(' ', ""))).unwrap(),
+        "done (0); to send: deliver_sm, sequence 700, service_type \"\", \
+         source 1/1/\"447700900123\", destination 1/1/\"447700900000\", esm_class 4, \
+         protocol_id 0, priority 0, schedule none, validity none, registered 0, \
+         replace_if_present 0, data_coding 0, default_id 0, text \"id:00000001 stat:2\": \
+         message 00000001 is delivered"
+    );
+    assert_eq!(
+        explain::request(&deliver_sm_resp(8, 700, b"junk")).unwrap(),
+        "deliver_sm_resp, sequence 700, status 8 (ESME_RSYSERR, system error)"
+    );
+    assert_eq!(
+        explain::line("13 0 -").unwrap(),
+        "refused: nothing owed (13); no reply"
+    );
+}
+
+#[test]
 fn lines_are_remembered() {
     let read = orders("\n# nothing\nopen 3\n\nclose 3").unwrap();
     let lines: Vec<usize> = read.iter().map(|order| order.line).collect();
@@ -135,6 +185,14 @@ fn complaints_name_the_line_and_what_was_expected() {
             "line 1: expected the end of the line, found \"1\"",
         ),
         ("\nopne 0", "line 2: expected stamp, sequence, open, bind,"),
+        (
+            "deliver 1",
+            "line 1: expected a sequence number, found the end of the line",
+        ),
+        (
+            "answer 1 7 8",
+            "line 1: expected status or the end of the line, found \"8\"",
+        ),
         (
             "bind 0 sender",
             "line 1: expected transmitter or receiver, found \"sender\"",
@@ -247,7 +305,10 @@ fn lines_that_were_never_printed_are_not_explained() {
     for (line, complaint) in [
         ("", "expected an answer, a count and a reply"),
         ("0 0", "expected an answer, a count and a reply"),
-        ("12 0 -", "expected an answer from 0 to 11, found \"12\""),
+        (
+            "14 0 -",
+            "expected the number that a call answers, found \"14\"",
+        ),
         ("0 x -", "expected a count of octets, found \"x\""),
         ("0 16 xyz", "expected a reply in hex"),
         ("0 16 00", "expected a reply of at least 16 octets, found 1"),

@@ -23,6 +23,7 @@ fn every_number_and_every_status_is_reached() {
         ("octets", &[0, 1, 2, 3, 4, 5, 6, 9]),
         ("outcome", &[0, 3, 5, 7, 8, 9, 10]),
         ("pick", &[0, 3, 7, 9, 11]),
+        ("deliver", &[0, 2, 3, 4, 6, 9, 12, 13]),
     ] {
         let seen: Vec<u8> = tally
             .numbers
@@ -53,6 +54,10 @@ fn every_number_and_every_status_is_reached() {
         assert_eq!(seen, statuses, "{reply:08X}");
     }
     assert!(tally.silent > 100);
+    let ways = ["acknowledged", "closed", "ended", "not settled", "refused"];
+    let seen: Vec<&str> = tally.receipts.keys().copied().collect();
+    assert_eq!(seen, ways);
+    assert!(tally.receipts.values().all(|&count| count > 20));
 }
 
 #[test]
@@ -71,6 +76,15 @@ fn most_requests_succeed() {
         let (all, accepted) = tally.accepted(request | command::RESPONSE);
         assert!(2 * accepted > all, "{request}: {accepted} of {all}");
     }
+    let delivers = tally
+        .numbers
+        .iter()
+        .filter(|((name, _), _)| *name == "deliver");
+    let all: u64 = delivers.map(|(_, count)| count).sum();
+    let written = tally.numbers[&("deliver", 0)];
+    assert!(3 * written > 2 * all, "deliver: {written} of {all}");
+    let acknowledged = tally.receipts["acknowledged"];
+    assert!(2 * acknowledged > written, "{acknowledged} of {written}");
 }
 
 #[test]

@@ -11,6 +11,7 @@ mod numbers;
 mod printed;
 #[cfg(feature = "proved")]
 mod proved;
+mod receipts;
 mod records;
 mod trials;
 mod vectors;

@@ -1,7 +1,7 @@
 //! The numbers that a caller gets, and the order in which they are tested.
 
 use crate::bureau::{plain_submit, Bureau};
-use reference::centre::{Entry, Refusal, LONGEST_REPLY};
+use reference::centre::{Entry, Receipt, Refusal, LONGEST_RECEIPT, LONGEST_REPLY};
 use reference::compose::Request;
 
 fn enquire() -> Vec<u8> {
@@ -91,6 +91,57 @@ fn octets_test_2_3_4_5_6_9_1() {
     );
     assert_eq!((small, space), ([0xEE; 43], [0xEE; 44]));
     assert!(bureau.take_into(0, &enquire(), &mut space).is_ok());
+}
+
+/// Everything is wrong at first; each round mends what was found.
+#[test]
+fn a_receipt_tests_2_3_4_6_9_12_13() {
+    let mut bureau = Bureau::new();
+    bureau.book.push(0);
+    bureau.place_mut(0, 0)[0] = 6;
+    let mut space = [0xEE; LONGEST_RECEIPT];
+    let mut small = [0xEE; LONGEST_RECEIPT - 1];
+    let short = |bureau: &mut Bureau, session, space: &mut [u8]| {
+        bureau.deliver_into(session, 1, space).unwrap_err()
+    };
+    assert_eq!(short(&mut bureau, 16, &mut small), Refusal::NoSuchSession);
+    assert_eq!(
+        short(&mut bureau, usize::MAX, &mut small),
+        Refusal::NoSuchSession
+    );
+    assert_eq!(short(&mut bureau, 0, &mut small), Refusal::WrongSize);
+    bureau.book.pop();
+    bureau.table.pop();
+    assert_eq!(short(&mut bureau, 0, &mut small), Refusal::WrongSize);
+    bureau.table.push(0);
+    assert_eq!(short(&mut bureau, 0, &mut small), Refusal::SpaceTooSmall);
+    for entry in [Entry::Closed, Entry::Ended] {
+        bureau.state.entries[0] = entry;
+        assert_eq!(short(&mut bureau, 0, &mut space), Refusal::WrongEntry);
+    }
+    for entry in [
+        Entry::Receiver(8),
+        Entry::Transmitter(255),
+        Entry::Transmitter(0),
+        Entry::Receiver(0),
+    ] {
+        bureau.state.entries[0] = entry;
+        assert_eq!(short(&mut bureau, 0, &mut space), Refusal::AccountIllFormed);
+    }
+    bureau.state.entries[0] = Entry::Open;
+    assert_eq!(short(&mut bureau, 0, &mut space), Refusal::NoReceiver);
+    bureau.place_mut(0, 0)[0] = 0;
+    bureau.state.entries[0] = Entry::Transmitter(0);
+    assert_eq!(short(&mut bureau, 0, &mut space), Refusal::NoReceiver);
+    bureau.state.entries[0] = Entry::Receiver(0);
+    bureau.state.receipts[0] = Some(Receipt { id: 1, sequence: 1 });
+    assert_eq!(short(&mut bureau, 0, &mut space), Refusal::NoReceiver);
+    bureau.state.receipts[0] = None;
+    assert_eq!(short(&mut bureau, 0, &mut space), Refusal::NothingOwed);
+    assert_eq!(
+        (small, space),
+        ([0xEE; LONGEST_RECEIPT - 1], [0xEE; LONGEST_RECEIPT])
+    );
 }
 
 #[test]

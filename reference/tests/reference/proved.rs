@@ -2,7 +2,7 @@
 
 use crate::bureau::{bind, plain_submit, Bureau, STAMP};
 use reference::campaign;
-use reference::centre::{PlainState, Reference};
+use reference::centre::{PlainState, Reference, SESSIONS};
 use reference::compare::{Engine, World};
 use reference::compose::{Request, Role};
 use reference::explain::Header;
@@ -18,7 +18,7 @@ fn it_does_what_the_reference_does() {
     }
 }
 
-/// The comparison looks at what states mean; here their form is looked at.
+/// The comparison holds states against the reference's; here their form is looked at.
 #[test]
 fn states_come_back_in_their_plain_form() {
     let history = history(3, 5_000, Manner::WellBehaved);
@@ -31,8 +31,14 @@ fn states_come_back_in_their_plain_form() {
 }
 
 fn is_plain(state: &PlainState) -> bool {
-    let entries = || state.kinds.iter().zip(&state.accounts);
-    entries().all(|(&kind, &account)| kind <= 4 && (account == 0 || matches!(kind, 2 | 3)))
+    (0..SESSIONS).all(|session| {
+        let (kind, account) = (state.kinds[session], state.accounts[session]);
+        let (id, sequence) = (state.receipts[session], state.sequences[session]);
+        kind <= 4
+            && (account == 0 || matches!(kind, 2 | 3))
+            && (id == 0 || kind == 3)
+            && (sequence == 0 || id != 0)
+    })
 }
 
 #[test]

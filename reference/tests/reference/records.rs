@@ -1,6 +1,6 @@
 //! Which stored records are well formed.
 
-use crate::bureau::{plain_submit, Bureau};
+use crate::bureau::{plain_submit, registered_submit, Bureau};
 use reference::centre::{Entry, Place, Refusal};
 use reference::compose::Request;
 
@@ -113,9 +113,29 @@ fn one_octet_fields() {
     assert!(with(waiting(), 89, &[1]) && !with(waiting(), 89, &[2]));
     assert!(with(waiting(), 90, &[255]));
     assert!(!with(waiting(), 91, &[1]), "a default id and a text");
-    for spare in 250..256 {
+    for spare in 251..256 {
         assert!(!with(waiting(), spare, &[1]));
+        assert!(!with(finished(), spare, &[1]));
     }
+}
+
+#[test]
+fn marks() {
+    let mut bureau = Bureau::bound();
+    bureau.submit(registered_submit());
+    let waiting = *bureau.place(0, 0);
+    bureau.outcome(0, 1, 3).unwrap();
+    let told = *bureau.place(0, 0);
+    assert_eq!((waiting[250], told[250]), (0, 1));
+    assert!(is_well_formed(&told) && with(told, 250, &[0]));
+    assert!(!with(told, 250, &[2]) && !with(told, 250, &[255]));
+    assert!(!with(told, 89, &[0]), "the flag of a marked record");
+    assert!(!with(waiting, 250, &[1]), "nothing is owed yet");
+    assert!(!with(finished(), 250, &[1]), "nor without the flag");
+    assert!(!with([0; 256], 250, &[1]), "nor in an empty place");
+    let mut deleted = told;
+    deleted[249] = 0;
+    assert!(with(deleted, 0, &[4]));
 }
 
 #[test]

@@ -76,6 +76,7 @@ fn altered(line: &str) -> String {
         (" open", " closed"),
         (" closed", " open"),
         (" ended", " open"),
+        (" none", " 1 1"),
     ] {
         if let Some(front) = line.strip_suffix(from) {
             return format!("{front}{to}");
@@ -83,7 +84,7 @@ fn altered(line: &str) -> String {
     }
     let words: Vec<&str> = line.split(' ').collect();
     let at = match words[0] {
-        "states" | "ids" => 2,
+        "states" | "marks" | "ids" => 2,
         // the octet to begin at
         "holds" => 4,
         _ => words.len() - 1,
@@ -142,6 +143,15 @@ fn each_way_to_say_a_reply() {
         "enquire 16 => 2\nenquire 1 => 6\npick 8 => 7\nstamp \"\"\nenquire 0 => 5\n",
         "put entry 3 receiver 8\nenquire 3 => 9\noutcome 0 1 4 => 8\noutcome 0 1 3 => 10\n",
         "unbind 0 => status 0\nentry 0 ended\nclose 0 => 0\nentry 0 closed\n",
+        "put entry 1 receiver 0\ndeliver 1 7 => 13\ndeliver 0 7 => 12\n\
+         submit 0 from \"\" to 1/1/5 registered 1 \"hi\" => id 1\ncancel 0 1 from \"\" => status 0\n\
+         record 0 0 deleted 1 final 960701120000000+ marked from 1/1/447700900000 to 1/1/5 \
+         registered 1 \"hi\"\n\
+         deliver 1 7 => receipt 1 state 4 from 1/1/5 to 1/1/447700900000\noutstanding 1 1 7\n\
+         answer 1 7 status 8 => 0 17 -\noutstanding 1 none\nmarks 0 1 0 times 15\n\
+         deliver 1 8 => 0 00000040 00000005 00000000 00000008 00 0101 3500 0101 \
+         34343737303039303030303000 040000 0000 00000000 12 69643A 3030303030303031 \
+         20737461743A34\n",
     ] {
         if let Err(failure) = played(lines) {
             panic!("line {}: {failure}", failure.line);
@@ -200,11 +210,32 @@ fn complaints_name_the_line_and_what_was_expected() {
         ),
         (
             "put table 0",
-            "line 1: expected book or record or last or entry",
+            "line 1: expected book or record or last or entry or outstanding",
         ),
         (
             "account 8 a b c callback 5",
             "line 1: expected an account number from 0 to 7",
+        ),
+        ("deliver 0 1", "line 1: expected \"=>\" behind a call"),
+        (
+            "deliver 0 => 0",
+            "line 1: expected a sequence number, found the end of the line",
+        ),
+        (
+            "deliver 0 1 => fine",
+            "line 1: expected a number or receipt, found \"fine\"",
+        ),
+        (
+            "deliver 0 1 => receipt 1 from 5 to 6",
+            "line 1: expected \"state\", found \"from\"",
+        ),
+        (
+            "answer 0 1 state 8 => 0 17 -",
+            "line 1: expected status or the end of the line, found \"state\"",
+        ),
+        (
+            "outstanding 0 1",
+            "line 1: expected a sequence number, found the end of the line",
         ),
     ] {
         let error = read(line).unwrap_err().to_string();

@@ -1,8 +1,8 @@
 //! The wrapper, on the independent implementation: it is the same on the proved library.
 
-use crate::bureau::{bind, plain_submit, Bureau, STAMP};
+use crate::bureau::{bind, plain_submit, registered_submit, Bureau, STAMP};
 use reference::centre::{Message, PlainState, Reference, Refusal, BOOK, TABLE};
-use reference::compose::{Request, Role};
+use reference::compose::{deliver_sm_resp, Request, Role};
 use reference::explain::Header;
 use reference::wrapper::{Centre, Outcome};
 
@@ -42,6 +42,32 @@ fn a_message_from_submission_to_delivery() {
     assert_eq!(status(&mut centre, &Request::Unbind), 0);
     centre.close(0).unwrap();
     assert_eq!(centre.open(0), Ok(()));
+}
+
+#[test]
+fn a_receipt_from_its_message_to_its_answer() {
+    let mut centre = bound();
+    centre.open(1).unwrap();
+    let request = bind(Role::Receiver, b"paging", b"secret", b"VMA").octets(1);
+    centre.take(1, &request, STAMP).unwrap().unwrap();
+    assert_eq!(
+        status(&mut centre, &Request::Submit(registered_submit())),
+        0
+    );
+    assert_eq!(centre.deliver(1, 7), Ok(None));
+    centre.outcome(STAMP, 0, 1, Outcome::Delivered, 0).unwrap();
+    assert_eq!(centre.deliver(0, 7), Err(Refusal::NoReceiver));
+    let receipt = centre.deliver(1, 7).unwrap().unwrap();
+    let header = Header::of(&receipt).unwrap();
+    assert_eq!((header.command, header.sequence), (5, 7));
+    assert_eq!(header.length as usize, receipt.len());
+    assert!(receipt.ends_with(b"id:00000001 stat:2"));
+    assert_eq!(centre.deliver(1, 8), Err(Refusal::NoReceiver));
+    assert_eq!(centre.state().receipts[1], 1);
+    let taken = centre.take(1, &deliver_sm_resp(0, 7, &[0]), STAMP);
+    assert!(taken.unwrap().unwrap().reply.is_empty());
+    assert_eq!(centre.state().receipts[1], 0);
+    assert_eq!(centre.deliver(1, 8), Ok(None));
 }
 
 #[test]

@@ -2,11 +2,11 @@
 use mathlib.Core.Path.{ap}
 use Rattle.octets.specs.Choice.{if_then_else_}
 use Rattle.octets.proofs.StretchLaws.{drop-cut}
-use Rattle.isolation.specs.Platform.{owning, Effect}
+use Rattle.isolation.specs.Platform.{Effect}
 use Rattle.answers.specs.Answer.{Answer}
 use Rattle.wire.specs.Command.{commandOf}
 use Rattle.wire.proofs.CommandLaws.{response-command, unknown-command}
-use Rattle.bound.specs.Bound.{replying, unbindTurn}
+use Rattle.bound.specs.Bound.{replying, unbindTurn, Stored, storing}
 use borrow.Author.Needs.{needs}
 use Rattle.bound.proofs.command.Statement.{statement}
 use Rattle.bound.proofs.command.Tie as tie
@@ -107,7 +107,7 @@ same-length-7 c = search needs
 
 returns-5 : tie.Need-returns-5
 unfolding commandOf replying unbindTurn if_then_else_
-returns-5 c = rw (← (c .before .before .before .before .before .before .read-header .ensures), c .before .before .before .before .match .keys5) (ap (λ (e : Effect Answer). record { answer = e .answer; own = owning (c .before .before .before .before .before .before .before .before .before .before .before .before .args .part .now) (e .own .last); ends = e .ends }) (rw (drop-cut 16 (c .before .before .before .before .before .before .before .before .before .before .before .before .args .pdu .now)) at (c .before .before .unbind-turn .ensures)))
+returns-5 c = rw (← (c .before .before .before .before .before .before .read-header .ensures), c .before .before .before .before .match .keys5) (ap (λ (e : Effect Stored Answer). record { answer = e .answer; own = storing (c .before .before .before .before .before .before .before .before .before .before .before .before .args .part .now) (e .own .last); ends = e .ends }) (rw (drop-cut 16 (c .before .before .before .before .before .before .before .before .before .before .before .before .args .pdu .now)) at (c .before .before .unbind-turn .ensures)))
 
 same-length-8 : tie.Need-same-length-8
 same-length-8 c = search needs

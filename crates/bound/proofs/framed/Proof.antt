@@ -27,11 +27,11 @@ bad-length-requires c κs = search needs
 enum-known-first : tie.Need-enum-known-first
 enum-known-first c = search needs
 
-slice-aggregate-command : tie.Need-slice-aggregate-command
-slice-aggregate-command c = let f : (16 ≤ c .before .before .first .given .0 .0) × (c .before .before .first .given .0 .0 ≤ length (c .before .before .before .before .before .before .before .before .before .before .args .octets .now)) = subst (Framed (c .before .before .before .before .before .before .before .before .before .before .args .octets .now)) (c .before .before .first .given .1) (c .before .before .before .before .frame-of .ensures .1) in sym (length-take-le (c .before .before .first .given .0 .0) (c .before .before .before .before .before .before .before .before .before .before .args .octets .now) (f .1))
+slice-aggregate-handle : tie.Need-slice-aggregate-handle
+slice-aggregate-handle c = let f : (16 ≤ c .before .before .first .given .0 .0) × (c .before .before .first .given .0 .0 ≤ length (c .before .before .before .before .before .before .before .before .before .before .args .octets .now)) = subst (Framed (c .before .before .before .before .before .before .before .before .before .before .args .octets .now)) (c .before .before .first .given .1) (c .before .before .before .before .frame-of .ensures .1) in sym (length-take-le (c .before .before .first .given .0 .0) (c .before .before .before .before .before .before .before .before .before .before .args .octets .now) (f .1))
 
-command-requires : tie.Need-command-requires
-command-requires c κs = let f : (16 ≤ c .before .before .before .before .first .given .0 .0) × (c .before .before .before .before .first .given .0 .0 ≤ length (c .before .before .before .before .before .before .before .before .before .before .before .before .args .octets .now)) = subst (Framed (c .before .before .before .before .before .before .before .before .before .before .before .before .args .octets .now)) (c .before .before .before .before .first .given .1) (c .before .before .before .before .before .before .frame-of .ensures .1) in let n = length-take-le (c .before .before .before .before .first .given .0 .0) (c .before .before .before .before .before .before .before .before .before .before .before .before .args .octets .now) (f .1) in (c .before .before .before .before .before .before .before .before .before .before .before .before .pre .0, (omega (arith, n, f .0), (c .before .before .before .before .before .before .before .before .before .before .before .before .pre .1)))
+handle-requires : tie.Need-handle-requires
+handle-requires c κs = let f : (16 ≤ c .before .before .before .before .first .given .0 .0) × (c .before .before .before .before .first .given .0 .0 ≤ length (c .before .before .before .before .before .before .before .before .before .before .before .before .args .octets .now)) = subst (Framed (c .before .before .before .before .before .before .before .before .before .before .before .before .args .octets .now)) (c .before .before .before .before .first .given .1) (c .before .before .before .before .before .before .frame-of .ensures .1) in let n = length-take-le (c .before .before .before .before .first .given .0 .0) (c .before .before .before .before .before .before .before .before .before .before .before .before .args .octets .now) (f .1) in (c .before .before .before .before .before .before .before .before .before .before .before .before .pre .0, (omega (arith, n, f .0), (c .before .before .before .before .before .before .before .before .before .before .before .before .pre .1)))
 
 returns : tie.Need-returns
 returns c = rw (sym (c .before .before .before .frame-of .ensures .0) ∙ c .before .enum-told .given .1, c .unheard .ensures)
@@ -49,7 +49,7 @@ same-length-3 : tie.Need-same-length-3
 same-length-3 c = search needs
 
 returns-3 : tie.Need-returns-3
-returns-3 c = rw (sym (c .before .before .before .before .before .before .before .before .before .before .before .frame-of .ensures .0) ∙ c .before .before .before .before .before .before .before .before .before .first .given .1) (c .before .before .before .before .command .ensures)
+returns-3 c = rw (sym (c .before .before .before .before .before .before .before .before .before .before .before .frame-of .ensures .0) ∙ c .before .before .before .before .before .before .before .before .before .first .given .1) (c .before .before .before .before .handle .ensures)
 
 pub framed-spec : {M : Type 1} → statement M
 framed-spec =
@@ -61,8 +61,8 @@ framed-spec =
     enum-told-2
     bad-length-requires
     enum-known-first
-    slice-aggregate-command
-    command-requires
+    slice-aggregate-handle
+    handle-requires
     returns
     same-length
     returns-2

@@ -1,13 +1,11 @@
 -- `centre::operations::locate` meets its contract. Assumes nothing.
-use mathlib.Core.Path.{ap}
 use Prim.Native.Nat.{_*_}
 use native.Mathlib.Omega.{arith}
 use native.Mathlib.Nat.{add-sub-cancel-left}
 use borrow.Author.Tests.{eq-eqb, ne-eqb, lt-ltb, le-ltb}
 use Rattle.octets.specs.Choice.{if_then_else_}
 use Rattle.octets.proofs.LentLaws.{held}
-use Rattle.isolation.specs.Platform.{Effect, step}
-use Rattle.answers.specs.Answer.{Answer}
+use Rattle.isolation.specs.Platform.{step}
 use Rattle.centre.specs.Centre.{act}
 use Rattle.centre.proofs.PlacedLaws.{inside}
 use borrow.Author.Needs.{needs}
@@ -28,8 +26,11 @@ returns-2 c = (rw (← (c .before .before .check-pick .ensures .0), eq-eqb _ _ (
 record-of-requires : tie.Need-record-of-requires
 record-of-requires c κs = let f = c .before .before .check-pick .ensures .1 (c .before .if1 .left) in (f .bookFits, c .if2 .left)
 
-last-requires : tie.Need-last-requires
-last-requires c κs = search needs
+mul-last : tie.Need-mul-last
+mul-last c = search needs
+
+element-copy-out-last : tie.Need-element-copy-out-last
+element-copy-out-last c = search needs
 
 mul-at : tie.Need-mul-at
 mul-at c = search needs
@@ -53,7 +54,7 @@ returns-3 : tie.Need-returns-3
 unfolding step act if_then_else_
 returns-3 c = let f = c .before .before .before .before .before .before .check-pick .ensures .1 (c .before .before .before .before .before .if1 .left) in
     let e = rw (add-sub-cancel-left (4096 * c .before .before .before .before .before .before .before .before .before .args .account) 4096) at (c .on-pick .ensures .0) in (
-      rw (← (c .before .before .before .before .before .before .check-pick .ensures .0), eq-eqb _ _ (c .before .before .before .before .before .if1 .left), lt-ltb _ _ (c .before .before .before .before .if2 .left), ← (held (c .before .before .before .record-of .ensures .0)), ← (c .before .before .last .ensures)) (ap (λ (r : Effect Answer). r .answer) e),
+      rw (← (c .before .before .before .before .before .before .check-pick .ensures .0), eq-eqb _ _ (c .before .before .before .before .before .if1 .left), lt-ltb _ _ (c .before .before .before .before .if2 .left), ← (held (c .before .before .before .record-of .ensures .0))) e,
       inside (c .on-pick .result) (c .before .before .before .before .before .before .before .before .before .args .account) (c .before .before .before .before .before .before .before .before .before .args .table .now) (c .on-pick .ensures .1) (c .before .before .before .before .if2 .left) (f .tableFits),
     )
 
@@ -65,7 +66,8 @@ locate-spec =
     returns
     returns-2
     record-of-requires
-    last-requires
+    mul-last
+    element-copy-out-last
     mul-at
     add-on-pick
     sub-on-pick

@@ -11,11 +11,10 @@ use Rattle.octets.specs.Choice.{if_then_else_}
 use Rattle.octets.specs.Stretch.{patch}
 use Rattle.octets.proofs.PatchLaws.{part-back}
 use Rattle.octets.proofs.LentLaws.{held}
-use Rattle.session.specs.State.{issued}
 use Rattle.session.specs.declared.State.{State}
 use Rattle.isolation.specs.Platform.{step}
 use Rattle.centre.specs.Centre.{act, reports}
-use Rattle.centre.proofs.StateLaws.{issued-same}
+use Rattle.centre.proofs.StateLaws.{own-same}
 use borrow.Author.Needs.{needs}
 use Rattle.centre.proofs.operations.outcome.Statement.{statement}
 use Rattle.centre.proofs.operations.outcome.Tie as tie
@@ -34,8 +33,11 @@ returns-2 c = rw (← (c .before .before .check-outcome .ensures .0), eq-eqb _ _
 record-of-requires : tie.Need-record-of-requires
 record-of-requires c κs = let f = c .before .before .check-outcome .ensures .1 (c .before .if1 .left) in (f .bookFits, c .if2 .left)
 
-last-requires : tie.Need-last-requires
-last-requires c κs = search needs
+mul-last : tie.Need-mul-last
+mul-last c = search needs
+
+element-copy-out-last : tie.Need-element-copy-out-last
+element-copy-out-last c = search needs
 
 mul-at : tie.Need-mul-at
 mul-at c = search needs
@@ -61,14 +63,16 @@ same-length c = search needs
 returns-3 : tie.Need-returns-3
 unfolding step act if_then_else_
 returns-3 c = let f = c .before .before .before .before .before .before .before .before .check-outcome .ensures .1 (c .before .before .before .before .before .before .before .if1 .left) in
-    let at = 4096 * c .before .before .before .before .before .before .before .before .before .before .before .before .args .account in
-    let t = c .before .before .before .before .before .before .before .before .before .before .before .before .args .table .now in
-    let back = c .before .before .on-outcome .last .1 .0 in
-    let e = rw (add-sub-cancel-left at 4096) at (c .before .before .on-outcome .ensures) in
-    let n : length back ≡ 4096 = (rw (add-sub-cancel-left at 4096) at (c .before .before .on-outcome .kept .1 .0)) ∙ part-length at 4096 t (omega (arith, f .tableFits, c .before .before .before .before .before .before .if2 .left)) in
-    ap (λ (l : List ℕ). reports (c .before .before .on-outcome .result) (c .before .before .before .before .before .before .before .before .before .before .before .before .args .state) l) (part-back t at 4096 back n (omega (arith, f .tableFits, c .before .before .before .before .before .before .if2 .left)))
-    ∙ rw (← (c .before .before .before .before .before .before .before .before .check-outcome .ensures .0), eq-eqb _ _ (c .before .before .before .before .before .before .before .if1 .left), lt-ltb _ _ (c .before .before .before .before .before .before .if2 .left), ← (held (c .before .before .before .before .before .record-of .ensures .0)), ← (c .before .before .before .before .last .ensures), ← e)
-    (ap (λ (s : State). reports (c .before .before .on-outcome .result) s (patch t at back)) (sym (ap (issued (c .before .before .before .before .before .before .before .before .before .before .before .before .args .state) (c .before .before .before .before .before .before .before .before .before .before .before .before .args .account)) (c .before .before .before .before .last .ensures) ∙ issued-same (c .before .before .before .before .before .before .before .before .before .before .before .before .args .state) (c .before .before .before .before .before .before .before .before .before .before .before .before .args .account))))
+    let g = c .before .before .before .before .before .before .before .before .before .before .before .before .args in
+    let at = 4096 * g .account in
+    let t = g .table .now in
+    let o = c .before .before .on-outcome in
+    let back = o .last .1 .0 in
+    let e = rw (add-sub-cancel-left at 4096) at (o .ensures) in
+    let n : length back ≡ 4096 = (rw (add-sub-cancel-left at 4096) at (o .kept .1 .0)) ∙ part-length at 4096 t (omega (arith, f .tableFits, c .before .before .before .before .before .before .if2 .left)) in
+    ap (λ (l : List ℕ). reports (o .result) (g .t3) l) (part-back t at 4096 back n (omega (arith, f .tableFits, c .before .before .before .before .before .before .if2 .left)))
+    ∙ rw (← (c .before .before .before .before .before .before .before .before .check-outcome .ensures .0), eq-eqb _ _ (c .before .before .before .before .before .before .before .if1 .left), lt-ltb _ _ (c .before .before .before .before .before .before .if2 .left), ← (held (c .before .before .before .before .before .record-of .ensures .0)), ← e)
+    (ap (λ (s : State). reports (o .result) s (patch t at back)) (sym (own-same (g .t3) (g .account))))
 
 pub outcome-spec : {M : Type 1} → statement M
 outcome-spec =
@@ -78,7 +82,8 @@ outcome-spec =
     returns
     returns-2
     record-of-requires
-    last-requires
+    mul-last
+    element-copy-out-last
     mul-at
     add-on-outcome
     sub-on-outcome

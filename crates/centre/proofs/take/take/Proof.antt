@@ -1,5 +1,5 @@
 -- `centre::take::take` meets its contract. Assumes nothing.
-use mathlib.Core.Path.{refl, sym, _∙_}
+use mathlib.Core.Path.{refl}
 use borrow.Author.Tests.{eq-eqb, ne-eqb, le-leb, lt-leb}
 use Rattle.octets.specs.Choice.{if_then_else_}
 use Rattle.isolation.specs.Platform.{step}
@@ -24,8 +24,11 @@ returns-2 : tie.Need-returns-2
 unfolding step if_then_else_
 returns-2 c = rw (lt-leb _ _ (c .before .before .before .if1 .left), ← (c .before .before .check .ensures .0), ne-eqb _ _ (c .before .if2 .taken), c .refuse2 .ensures)
 
-entry-requires : tie.Need-entry-requires
-entry-requires c κs = search needs
+mul-x : tie.Need-mul-x
+mul-x c = search needs
+
+element-copy-out-x : tie.Need-element-copy-out-x
+element-copy-out-x c = search needs
 
 enum-told : tie.Need-enum-told
 enum-told c = search needs
@@ -59,14 +62,14 @@ refuse-requires-4 c κs = search needs
 
 returns-3 : tie.Need-returns-3
 unfolding step if_then_else_
-returns-3 c = rw (lt-leb _ _ (c .before .before .before .before .before .before .if1 .left), ← (c .before .before .before .before .before .check .ensures .0), eq-eqb _ _ (c .before .before .before .before .if2 .left), sym (c .before .before .before .entry .ensures) ∙ c .before .enum-told .given .1, c .refuse3 .ensures)
+returns-3 c = rw (lt-leb _ _ (c .before .before .before .before .before .before .if1 .left), ← (c .before .before .before .before .before .check .ensures .0), eq-eqb _ _ (c .before .before .before .before .if2 .left), c .before .enum-told .given .1, c .refuse3 .ensures)
 
 same-length : tie.Need-same-length
 same-length c = search needs
 
 returns-4 : tie.Need-returns-4
 unfolding step if_then_else_
-returns-4 c = rw (lt-leb _ _ (c .before .before .before .before .before .before .before .before .before .if1 .left), ← (c .before .before .before .before .before .before .before .before .check .ensures .0), eq-eqb _ _ (c .before .before .before .before .before .before .before .if2 .left), sym (c .before .before .before .before .before .before .entry .ensures) ∙ c .before .before .before .before .enum-told2 .given .1) (c .before .before .take-open .ensures (c .before .before .before .before .before .before .before .before .before .before .before .before .before .before .before .args .stamp .now) (c .before .before .before .before .before .before .before .before .before .before .before .before .before .before .before .args .table .now))
+returns-4 c = rw (lt-leb _ _ (c .before .before .before .before .before .before .before .before .before .if1 .left), ← (c .before .before .before .before .before .before .before .before .check .ensures .0), eq-eqb _ _ (c .before .before .before .before .before .before .before .if2 .left), c .before .before .before .before .enum-told2 .given .1) (c .before .before .take-open .ensures (c .before .before .before .before .before .before .before .before .before .before .before .before .before .before .before .args .stamp .now) (c .before .before .before .before .before .before .before .before .before .before .before .before .before .before .before .args .table .now))
 
 same-length-2 : tie.Need-same-length-2
 same-length-2 c = search needs
@@ -76,7 +79,7 @@ same-length-3 c = search needs
 
 returns-5 : tie.Need-returns-5
 unfolding step if_then_else_
-returns-5 c = rw (lt-leb _ _ (c .before .before .before .before .before .before .before .before .before .before .before .before .before .if1 .left), ← (c .before .before .before .before .before .before .before .before .before .before .before .before .check .ensures .0), eq-eqb _ _ (c .before .before .before .before .before .before .before .before .before .before .before .if2 .left), sym (c .before .before .before .before .before .before .before .before .before .before .entry .ensures) ∙ c .before .before .before .before .before .before .before .before .entry2 .given .1) (c .before .before .before .before .take-bound .ensures)
+returns-5 c = rw (lt-leb _ _ (c .before .before .before .before .before .before .before .before .before .before .before .before .before .if1 .left), ← (c .before .before .before .before .before .before .before .before .before .before .before .before .check .ensures .0), eq-eqb _ _ (c .before .before .before .before .before .before .before .before .before .before .before .if2 .left), c .before .before .before .before .before .before .before .before .entry .given .1) (c .before .before .before .before .take-bound .ensures)
 
 same-length-4 : tie.Need-same-length-4
 same-length-4 c = search needs
@@ -86,11 +89,11 @@ same-length-5 c = search needs
 
 returns-6 : tie.Need-returns-6
 unfolding step if_then_else_
-returns-6 c = rw (lt-leb _ _ (c .before .before .before .before .before .before .before .before .before .before .before .before .before .if1 .left), ← (c .before .before .before .before .before .before .before .before .before .before .before .before .check .ensures .0), eq-eqb _ _ (c .before .before .before .before .before .before .before .before .before .before .before .if2 .left), sym (c .before .before .before .before .before .before .before .before .before .before .entry .ensures) ∙ c .before .before .before .before .before .before .before .before .entry3 .given .1) (c .before .before .before .before .take-bound2 .ensures)
+returns-6 c = rw (lt-leb _ _ (c .before .before .before .before .before .before .before .before .before .before .before .before .before .if1 .left), ← (c .before .before .before .before .before .before .before .before .before .before .before .before .check .ensures .0), eq-eqb _ _ (c .before .before .before .before .before .before .before .before .before .before .before .if2 .left), c .before .before .before .before .before .before .before .before .entry2 .given .1) (c .before .before .before .before .take-bound2 .ensures)
 
 returns-7 : tie.Need-returns-7
 unfolding step if_then_else_
-returns-7 c = rw (lt-leb _ _ (c .before .before .before .before .before .before .if1 .left), ← (c .before .before .before .before .before .check .ensures .0), eq-eqb _ _ (c .before .before .before .before .if2 .left), sym (c .before .before .before .entry .ensures) ∙ c .before .enum-told3 .given .1, c .refuse4 .ensures)
+returns-7 c = rw (lt-leb _ _ (c .before .before .before .before .before .before .if1 .left), ← (c .before .before .before .before .before .check .ensures .0), eq-eqb _ _ (c .before .before .before .before .if2 .left), c .before .enum-told3 .given .1, c .refuse4 .ensures)
 
 pub take-spec : {M : Type 1} → statement M
 take-spec =
@@ -101,7 +104,8 @@ take-spec =
     check-requires
     refuse-requires-2
     returns-2
-    entry-requires
+    mul-x
+    element-copy-out-x
     enum-told
     refuse-requires-3
     enum-told-2

@@ -1,5 +1,5 @@
 -- `centre::take::take_bound` meets its contract. Assumes nothing.
-use lib.ListN.{length}
+use lib.ListN.{length, set}
 use native.Mathlib.Nat.{add-sub-cancel-left}
 use Rattle.centre.specs.declared.take.Taken.{Taken}
 use mathlib.Core.Path.{_≡_, ap, _∙_}
@@ -11,7 +11,11 @@ use Rattle.octets.specs.Choice.{if_then_else_}
 use Rattle.octets.proofs.StretchLaws.{part-length}
 use Rattle.octets.proofs.PatchLaws.{part-back}
 use Rattle.octets.proofs.LentLaws.{held}
-use Rattle.centre.specs.Centre.{act, takes}
+use Rattle.session.specs.State.{receiptsOf}
+use Rattle.isolation.specs.Platform.{owning}
+use Rattle.session.proofs.ReceiptLaws.{receipts-at}
+use Rattle.centre.specs.Centre.{act, onOctets, takes}
+use Rattle.centre.proofs.StateLaws.{settled-put}
 use borrow.Author.Needs.{needs}
 use Rattle.centre.proofs.take.take_bound.Statement.{statement}
 use Rattle.centre.proofs.take.take_bound.Tie as tie
@@ -26,8 +30,20 @@ returns c = rw (le-ltb _ _ (c .before .if1 .taken), c .refuse .ensures)
 record-of-requires : tie.Need-record-of-requires
 record-of-requires c κs = search needs
 
-last-requires : tie.Need-last-requires
-last-requires c κs = search needs
+mul-last : tie.Need-mul-last
+mul-last c = search needs
+
+element-copy-out-last : tie.Need-element-copy-out-last
+element-copy-out-last c = search needs
+
+mul-receipt-for : tie.Need-mul-receipt-for
+mul-receipt-for c = search needs
+
+element-copy-out-receipt-for : tie.Need-element-copy-out-receipt-for
+element-copy-out-receipt-for c = search needs
+
+receipt-for-requires : tie.Need-receipt-for-requires
+receipt-for-requires c κs = search needs
 
 mul-at : tie.Need-mul-at
 mul-at c = search needs
@@ -48,10 +64,7 @@ on-bound-requires : tie.Need-on-bound-requires
 on-bound-requires c κs = search needs
 
 settle-requires : tie.Need-settle-requires
-settle-requires c κs = search needs
-
-issue-requires : tie.Need-issue-requires
-issue-requires c κs = search needs
+settle-requires c κs = (c .before .before .before .before .before .before .before .before .before .before .before .before .before .before .before .before .before .before .pre .0 .1 .0, c .before .before .before .before .before .before .before .before .before .before .before .before .if1 .left)
 
 same-length : tie.Need-same-length
 same-length c = search needs
@@ -60,15 +73,17 @@ same-length-2 : tie.Need-same-length-2
 same-length-2 c = search needs
 
 returns-2 : tie.Need-returns-2
-unfolding act if_then_else_
-returns-2 c = let at = 4096 * c .before .before .before .before .before .before .before .before .before .before .before .before .before .before .before .before .before .args .a in
-    let t = c .before .before .before .before .before .before .before .before .before .before .before .before .before .before .before .before .before .args .table .now in
-    let back = c .before .before .before .before .before .before .on-bound .last .1 .1 .1 .1 .1 .0 in
-    let r : Taken = record { number = c .before .before .before .before .before .before .on-bound .result .number; consumed = c .before .before .before .before .before .before .on-bound .result .consumed; written = c .before .before .before .before .before .before .on-bound .result .written; state = c .issue .result } in
-    let e = rw (add-sub-cancel-left at 4096) at (c .before .before .before .before .before .before .on-bound .ensures) in
-    let n : length back ≡ 4096 = (rw (add-sub-cancel-left at 4096) at (c .before .before .before .before .before .before .on-bound .kept .1 .1 .1 .1 .1 .0)) ∙ part-length at 4096 t (omega (arith, c .before .before .before .before .before .before .before .before .before .before .before .before .before .before .before .before .before .pre .0 .0 .1, c .before .before .before .before .before .before .before .before .before .before .before .if1 .left)) in
-    ap (λ (l : List ℕ). takes r l (c .before .before .before .before .before .before .on-bound .last .1 .1 .1 .1 .0)) (part-back t at 4096 back n (omega (arith, c .before .before .before .before .before .before .before .before .before .before .before .before .before .before .before .before .before .pre .0 .0 .1, c .before .before .before .before .before .before .before .before .before .before .before .if1 .left)))
-    ∙ rw (lt-ltb _ _ (c .before .before .before .before .before .before .before .before .before .before .before .if1 .left), c .before .before .before .before .before .before .before .before .before .before .before .before .before .before .before .before .before .pre .0 .1 .1, ← (held (c .before .before .before .before .before .before .before .before .before .before .record-of .ensures .0)), ← (c .before .before .before .before .before .before .before .before .before .last .ensures), ← e, c .issue .ensures, c .before .settle .ensures)
+unfolding act onOctets if_then_else_
+returns-2 c = let g = c .before .before .before .before .before .before .before .before .before .before .before .before .before .before .before .before .before .before .before .args in
+    let at = 4096 * g .a in
+    let t = g .table .now in
+    let b = c .before .before .before .before .before .before .on-bound in
+    let back = b .last .1 .1 .1 .1 .1 .0 in
+    let r : Taken = record { number = b .result .acted .number; consumed = b .result .acted .consumed; written = b .result .acted .written; state = c .settle .result } in
+    let e = rw (add-sub-cancel-left at 4096) at (b .ensures) in
+    let n : length back ≡ 4096 = (rw (add-sub-cancel-left at 4096) at (b .kept .1 .1 .1 .1 .1 .0)) ∙ part-length at 4096 t (omega (arith, c .before .before .before .before .before .before .before .before .before .before .before .before .before .before .before .before .before .before .before .pre .0 .0 .1, c .before .before .before .before .before .before .before .before .before .before .before .before .before .if1 .left)) in
+    ap (λ (l : List ℕ). takes r l (b .last .1 .1 .1 .1 .0)) (part-back t at 4096 back n (omega (arith, c .before .before .before .before .before .before .before .before .before .before .before .before .before .before .before .before .before .before .before .pre .0 .0 .1, c .before .before .before .before .before .before .before .before .before .before .before .before .before .if1 .left)))
+    ∙ rw (lt-ltb _ _ (c .before .before .before .before .before .before .before .before .before .before .before .before .before .if1 .left), c .before .before .before .before .before .before .before .before .before .before .before .before .before .before .before .before .before .before .before .pre .0 .1 .1, ← (held (c .before .before .before .before .before .before .before .before .before .before .before .before .record-of .ensures .0)), receipts-at (g .t3) (g .a) (g .session), ← (c .before .before .before .before .before .before .before .before .before .receipt-for .ensures), ← e, settled-put (g .t3) t (g .session) (g .a) (b .result .acted .ends) (owning back (b .result .acted .last) (set (receiptsOf (g .t3) (g .a)) (g .session) (b .result .receipt))), c .settle .ensures)
 
 pub take-bound-spec : {M : Type 1} → statement M
 take-bound-spec =
@@ -77,7 +92,11 @@ take-bound-spec =
     refuse-requires
     returns
     record-of-requires
-    last-requires
+    mul-last
+    element-copy-out-last
+    mul-receipt-for
+    element-copy-out-receipt-for
+    receipt-for-requires
     mul-at
     add-on-bound
     sub-on-bound
@@ -85,7 +104,6 @@ take-bound-spec =
     part-on-bound-end
     on-bound-requires
     settle-requires
-    issue-requires
     same-length
     same-length-2
     returns-2)

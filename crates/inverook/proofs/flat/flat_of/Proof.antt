@@ -10,9 +10,17 @@ kinds-of-requires c κs = search needs
 accounts-of-requires : tie.Need-accounts-of-requires
 accounts-of-requires c κs = search needs
 
+ids-of-requires : tie.Need-ids-of-requires
+ids-of-requires c κs = search needs
+
+sequences-of-requires : tie.Need-sequences-of-requires
+sequences-of-requires c κs = search needs
+
 returns : tie.Need-returns
 unfolding flatOf
-returns c = rw (c .before .before .kinds-of .ensures, c .before .accounts-of .ensures)
+returns c = rw (c .before .before .before .before .kinds-of .ensures, c .before .before .before .accounts-of .ensures, c .before .ids-of .ensures, c .sequences-of .ensures)
 
 pub flat-of-spec : {M : Type 1} → statement M
-flat-of-spec = tie.close (tie.spec kinds-of-requires accounts-of-requires returns)
+flat-of-spec =
+    tie.close
+    (tie.spec kinds-of-requires accounts-of-requires ids-of-requires sequences-of-requires returns)

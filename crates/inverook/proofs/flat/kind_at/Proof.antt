@@ -4,15 +4,18 @@ use borrow.Author.Needs.{needs}
 use Rattle.inverook.proofs.flat.kind_at.Statement.{statement}
 use Rattle.inverook.proofs.flat.kind_at.Tie as tie
 
-entry-requires : tie.Need-entry-requires
-entry-requires c κs = search needs
+mul-x : tie.Need-mul-x
+mul-x c = search needs
+
+element-copy-out-x : tie.Need-element-copy-out-x
+element-copy-out-x c = search needs
 
 kind-of-requires : tie.Need-kind-of-requires
 kind-of-requires c κs = search needs
 
 returns : tie.Need-returns
 unfolding kindAt
-returns c = rw (c .kind-of .ensures, c .before .entry .ensures)
+returns c = c .kind-of .ensures
 
 pub kind-at-spec : {M : Type 1} → statement M
-kind-at-spec = tie.close (tie.spec entry-requires kind-of-requires returns)
+kind-at-spec = tie.close (tie.spec mul-x element-copy-out-x kind-of-requires returns)

@@ -25,6 +25,9 @@ are-fields-ok-requires c κs = search needs
 is-end-ok-requires : tie.Need-is-end-ok-requires
 is-end-ok-requires c κs = search needs
 
+is-mark-ok-requires : tie.Need-is-mark-ok-requires
+is-mark-ok-requires c κs = search needs
+
 sub-all-zero : tie.Need-sub-all-zero
 sub-all-zero c = search needs
 
@@ -39,7 +42,7 @@ all-zero-requires c κs = search needs
 
 returns : tie.Need-returns
 unfolding messageOk
-returns c = rw (c .all-zero .ensures, c .before .before .is-end-ok .ensures, c .before .before .before .are-fields-ok .ensures, c .before .before .before .before .is-within2 .ensures, c .before .before .before .before .before .number-at .ensures, c .before .before .before .before .before .before .is-within .ensures, c .before .before .before .before .before .before .before .wide .ensures .0)
+returns c = rw (c .all-zero .ensures, c .before .before .is-mark-ok .ensures, c .before .before .before .is-end-ok .ensures, c .before .before .before .before .are-fields-ok .ensures, c .before .before .before .before .before .is-within2 .ensures, c .before .before .before .before .before .before .number-at .ensures, c .before .before .before .before .before .before .before .is-within .ensures, c .before .before .before .before .before .before .before .before .wide .ensures .0)
 
 pub is-message-ok-spec : {M : Type 1} → statement M
 is-message-ok-spec =
@@ -52,6 +55,7 @@ is-message-ok-spec =
     is-within-requires-2
     are-fields-ok-requires
     is-end-ok-requires
+    is-mark-ok-requires
     sub-all-zero
     part-all-zero-start
     part-all-zero-end

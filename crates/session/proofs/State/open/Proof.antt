@@ -1,5 +1,4 @@
 -- `session::State::open` meets its contract. Assumes nothing.
-use mathlib.Core.Path.{sym, _∙_}
 use borrow.Author.Tests.{le-leb, lt-leb}
 use Rattle.octets.specs.Choice.{if_then_else_}
 use Rattle.session.specs.State.{opened}
@@ -11,8 +10,11 @@ returns : tie.Need-returns
 unfolding opened if_then_else_
 returns c = rw (le-leb _ _ (c .if1 .taken))
 
-entry-requires : tie.Need-entry-requires
-entry-requires c κs = search needs
+mul-x : tie.Need-mul-x
+mul-x c = search needs
+
+element-copy-out-x : tie.Need-element-copy-out-x
+element-copy-out-x c = search needs
 
 enum-told : tie.Need-enum-told
 enum-told c = search needs
@@ -34,30 +36,31 @@ enum-told-5 c = search needs
 
 returns-2 : tie.Need-returns-2
 unfolding opened if_then_else_
-returns-2 c = rw (lt-leb _ _ (c .before .before .before .before .if1 .left), sym (c .before .before .before .entry .ensures) ∙ c .before .enum-told .given .1, c .bind .ensures)
+returns-2 c = rw (lt-leb _ _ (c .before .before .before .before .if1 .left), c .before .enum-told .given .1, c .bind .ensures)
 
 returns-3 : tie.Need-returns-3
 unfolding opened if_then_else_
-returns-3 c = rw (lt-leb _ _ (c .before .before .before .if1 .left), sym (c .before .before .entry .ensures) ∙ c .enum-told2 .given .1)
+returns-3 c = rw (lt-leb _ _ (c .before .before .before .if1 .left), c .enum-told2 .given .1)
 
 returns-4 : tie.Need-returns-4
 unfolding opened if_then_else_
-returns-4 c = rw (lt-leb _ _ (c .before .before .before .if1 .left), sym (c .before .before .entry .ensures) ∙ c .enum-told3 .given .1)
+returns-4 c = rw (lt-leb _ _ (c .before .before .before .if1 .left), c .enum-told3 .given .1)
 
 returns-5 : tie.Need-returns-5
 unfolding opened if_then_else_
-returns-5 c = rw (lt-leb _ _ (c .before .before .before .if1 .left), sym (c .before .before .entry .ensures) ∙ c .enum-told4 .given .1)
+returns-5 c = rw (lt-leb _ _ (c .before .before .before .if1 .left), c .enum-told4 .given .1)
 
 returns-6 : tie.Need-returns-6
 unfolding opened if_then_else_
-returns-6 c = rw (lt-leb _ _ (c .before .before .before .if1 .left), sym (c .before .before .entry .ensures) ∙ c .enum-told5 .given .1)
+returns-6 c = rw (lt-leb _ _ (c .before .before .before .if1 .left), c .enum-told5 .given .1)
 
 pub open-spec : {M : Type 1} → statement M
 open-spec =
     tie.close
     (tie.spec
     returns
-    entry-requires
+    mul-x
+    element-copy-out-x
     enum-told
     bind-requires
     enum-told-2

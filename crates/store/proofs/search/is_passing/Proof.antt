@@ -25,6 +25,9 @@ enum-told-2 c = search needs
 enum-told-3 : tie.Need-enum-told-3
 enum-told-3 c = search needs
 
+shared-slice-read-result : tie.Need-shared-slice-read-result
+shared-slice-read-result c = search needs
+
 enum-told-4 : tie.Need-enum-told-4
 enum-told-4 c = search needs
 
@@ -42,7 +45,7 @@ returns-3 c = rw (c .enum-told2 .given .1)
 
 returns-4 : tie.Need-returns-4
 unfolding passes
-returns-4 c = rw (c .enum-told3 .given .1)
+returns-4 c = rw (c .before .enum-told3 .given .1)
 
 returns-5 : tie.Need-returns-5
 unfolding passes
@@ -59,6 +62,7 @@ is-passing-spec =
     is-pair-requires
     enum-told-2
     enum-told-3
+    shared-slice-read-result
     enum-told-4
     returns
     returns-2

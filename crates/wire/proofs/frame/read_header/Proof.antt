@@ -10,9 +10,12 @@ number-at-requires c κs = search needs
 number-at-requires-2 : tie.Need-number-at-requires-2
 number-at-requires-2 c κs = search needs
 
+number-at-requires-3 : tie.Need-number-at-requires-3
+number-at-requires-3 c κs = search needs
+
 returns : tie.Need-returns
 unfolding headerOf
-returns c = rw (← (c .before .number-at .ensures), ← (c .number-at2 .ensures))
+returns c = rw (← (c .before .before .number-at .ensures), ← (c .before .number-at2 .ensures), ← (c .number-at3 .ensures))
 
 pub read-header-spec : {M : Type 1} → statement M
-read-header-spec = tie.close (tie.spec number-at-requires number-at-requires-2 returns)
+read-header-spec = tie.close (tie.spec number-at-requires number-at-requires-2 number-at-requires-3 returns)

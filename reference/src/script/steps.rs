@@ -1,16 +1,42 @@
-//! Lines into orders for the printing program.
+//! Lines into steps, and steps into orders for the printing program.
 
 use super::words::{unexpected, Word, Words};
 use super::ScriptError;
 use crate::centre::{LONGEST_PDU, STAMP};
-use crate::compose::{Bind, Cancel, Query, Replace, Request, Role, Submit, Text};
+use crate::compare::{Deliver, Outcome, Sizes, Step, Take};
+use crate::compose::{deliver_sm_resp, Bind, Cancel, Query, Replace, Request, Role, Submit, Text};
 use crate::hex;
 use crate::printing::{Order, RecordedReport};
+use crate::recorded;
 
 const STEPS: &str = "stamp, sequence, open, bind, submit, query, cancel, replace, outcome, \
-                     octets, unbind, enquire or close";
+                     octets, deliver, answer, unbind, enquire or close";
 
 const DEFAULT_STAMP: [u8; STAMP] = *b"960701120000000+";
+
+/// A step and the line that asked for it.
+#[derive(Clone, Debug, PartialEq, Eq)]
+pub struct ScriptedStep {
+    pub line: usize,
+    pub step: Step,
+}
+
+/// Reads a whole script.
+pub fn steps(script: &str) -> Result<Vec<ScriptedStep>, ScriptError> {
+    let mut reader = Reader {
+        stamp: DEFAULT_STAMP,
+        sequence: 1,
+    };
+    let mut steps = Vec::new();
+    for (line, text) in (1..).zip(script.lines()) {
+        match reader.line(text) {
+            Ok(None) => {}
+            Ok(Some(step)) => steps.push(ScriptedStep { line, step }),
+            Err(message) => return Err(ScriptError { line, message }),
+        }
+    }
+    Ok(steps)
+}
 
 /// An order and the line that asked for it.
 #[derive(Clone, Debug, PartialEq, Eq)]
@@ -19,21 +45,16 @@ pub struct ScriptedOrder {
     pub order: Order,
 }
 
-/// Reads a whole script.
+/// Reads a whole script for the printing program, which has no record for a receipt.
 pub fn orders(script: &str) -> Result<Vec<ScriptedOrder>, ScriptError> {
-    let mut reader = Reader {
-        stamp: DEFAULT_STAMP,
-        sequence: 1,
+    let order = |ScriptedStep { line, step }| match recorded::order(&step) {
+        Some(order) => Ok(ScriptedOrder { line, order }),
+        None => Err(ScriptError {
+            line,
+            message: format!("expected a step that a record can say, found \"{step}\""),
+        }),
     };
-    let mut orders = Vec::new();
-    for (line, text) in (1..).zip(script.lines()) {
-        match reader.line(text) {
-            Ok(None) => {}
-            Ok(Some(order)) => orders.push(ScriptedOrder { line, order }),
-            Err(message) => return Err(ScriptError { line, message }),
-        }
-    }
-    Ok(orders)
+    steps(script)?.into_iter().map(order).collect()
 }
 
 /// What lines set for the lines behind them.
@@ -43,8 +64,8 @@ struct Reader {
 }
 
 impl Reader {
-    /// The order of a line, if it gives one.
-    fn line(&mut self, line: &str) -> Result<Option<Order>, String> {
+    /// The step of a line, if it gives one.
+    fn line(&mut self, line: &str) -> Result<Option<Step>, String> {
         let mut words = Words::of(line)?;
         let Some(step) = words.any() else {
             return Ok(None);
@@ -52,14 +73,16 @@ impl Reader {
         match step.octets.as_slice() {
             b"stamp" => self.set_stamp(words).map(|()| None),
             b"sequence" => self.set_sequence(words).map(|()| None),
-            b"open" => Ok(Some(Order::Open {
-                session: only_session(words)?,
+            b"open" => Ok(Some(Step::Open {
+                session: only_session(words)?.into(),
             })),
-            b"close" => Ok(Some(Order::Close {
-                session: only_session(words)?,
+            b"close" => Ok(Some(Step::Close {
+                session: only_session(words)?.into(),
             })),
             b"outcome" => self.outcome(words).map(Some),
             b"octets" => self.octets(words).map(Some),
+            b"deliver" => deliver(words).map(Some),
+            b"answer" => self.answer(words).map(Some),
             _ => self.request(&step, words).map(Some),
         }
     }
@@ -77,14 +100,20 @@ impl Reader {
         words.end()
     }
 
-    fn outcome(&mut self, words: Words) -> Result<Order, String> {
-        Ok(Order::Outcome {
-            stamp: self.stamp,
-            report: report(words)?,
-        })
+    fn outcome(&mut self, words: Words) -> Result<Step, String> {
+        Ok(Step::Outcome(Outcome {
+            sizes: Sizes::default(),
+            stamp: self.stamp.to_vec(),
+            report: report(words)?.for_centre(),
+        }))
     }
 
-    fn octets(&mut self, mut words: Words) -> Result<Order, String> {
+    fn answer(&mut self, words: Words) -> Result<Step, String> {
+        let (session, octets) = answer(words)?;
+        self.take(session, octets)
+    }
+
+    fn octets(&mut self, mut words: Words) -> Result<Step, String> {
         let session = words.octet("a session number")?;
         let mut digits = String::new();
         while let Some(word) = words.any() {
@@ -93,26 +122,51 @@ impl Reader {
         self.take(session, hex::octets(&digits)?)
     }
 
-    fn request(&mut self, step: &Word, words: Words) -> Result<Order, String> {
+    fn request(&mut self, step: &Word, words: Words) -> Result<Step, String> {
         let (session, request) = request(step, words)?.ok_or_else(|| unexpected(STEPS, step))?;
         let octets = request.octets(self.sequence);
         self.sequence = self.sequence.wrapping_add(1);
         self.take(session, octets)
     }
 
-    fn take(&self, session: u8, octets: Vec<u8>) -> Result<Order, String> {
+    fn take(&self, session: u8, octets: Vec<u8>) -> Result<Step, String> {
         if octets.len() > LONGEST_PDU {
             return Err(format!(
                 "expected at most {LONGEST_PDU} octets, found {}",
                 octets.len()
             ));
         }
-        Ok(Order::Octets {
-            session,
-            stamp: self.stamp,
-            octets,
-        })
+        Ok(Step::Take(Take {
+            stamp: self.stamp.to_vec(),
+            ..Take::plain(session.into(), octets)
+        }))
     }
+}
+
+/// A session and the sequence number that its receipt gets.
+fn deliver(mut words: Words) -> Result<Step, String> {
+    let (session, sequence) = receipt(&mut words)?;
+    words.end()?;
+    Ok(Step::Deliver(Deliver::plain(session.into(), sequence)))
+}
+
+/// A session and a receipt's sequence number.
+pub fn receipt(words: &mut Words) -> Result<(u8, u32), String> {
+    let session = words.octet("a session number")?;
+    Ok((session, words.number("a sequence number")?))
+}
+
+/// The session that an answer to a receipt is sent on, and its octets.
+pub fn answer(mut words: Words) -> Result<(u8, Vec<u8>), String> {
+    let (session, sequence) = receipt(&mut words)?;
+    let status = match words.any() {
+        None => 0,
+        Some(word) if word.is("status") => words.number("a status")?,
+        Some(word) => return Err(unexpected("status or the end of the line", &word)),
+    };
+    words.end()?;
+    const NO_ID: &[u8] = &[0];
+    Ok((session, deliver_sm_resp(status, sequence, NO_ID)))
 }
 
 /// A request and the session that it is sent on; none where the first word names no request.

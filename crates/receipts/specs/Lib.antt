@@ -1,0 +1,3 @@
+pub mod DeliverSm
+pub mod Offer
+pub mod Settle
