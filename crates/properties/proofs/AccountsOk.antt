@@ -22,11 +22,12 @@ use Rattle.isolation.proofs.Views.{View, view-own, view-other}
 use Rattle.answers.specs.Answer.{Call, taking, delivering, Question, outcome, pick, Answer}
 use Rattle.bound.specs.Bound.{isTransmitter}
 use Rattle.centre.specs.Centre.{centre, earlyCall, earlyQuestion, onDelivery, onFront, act}
+use Rattle.wellformed.proofs.GoodIs.{zeros-at}
 use Rattle.wellformed.proofs.GoodPartIs.{good-account}
 use Rattle.wellformed.proofs.TextFields.{every-replicate}
 use Rattle.properties.proofs.AccountFine.{Fine, octets-fine, noted-fine}
 use Rattle.properties.proofs.Early.{early-octets, early-outcome}
-use Rattle.properties.proofs.FreshOk.{zeros-at, zeros-good}
+use Rattle.properties.proofs.FreshOk.{zeros-good}
 use Rattle.properties.proofs.Isolated.{keeps}
 use Rattle.properties.proofs.MoveCases.{opens-cases, closes-cases}
 use Rattle.properties.proofs.OnCases.{on-cases}

@@ -1,24 +1,15 @@
 -- A part of zeros is well formed, with any last id. Assumes nothing.
-use Prim.Native.Nat.{ℕ, zero, suc, _*_}
-use mathlib.Core.Path.{_≡_, refl, sym, _∙_}
+use Prim.Native.Nat.{ℕ, _*_}
+use mathlib.Core.Path.{_≡_, sym, _∙_}
 use mathlib.Core.Bool.{true, false≢true}
-use mathlib.Core.List.{List, [], _∷_}
-use lib.ListN.{getD}
-use lib.Dec.{eqb}
-use borrow.Author.Tests.{eqb-true}
-use Rattle.octets.specs.Stretch.{every, zeros}
-use Rattle.octets.proofs.StretchLaws.{and-left, and-right}
+use mathlib.Core.List.{List}
+use Rattle.octets.specs.Stretch.{zeros}
 use Rattle.records.specs.Layout.{recordSize}
 use Rattle.records.specs.Record.{recordOk}
 use Rattle.store.specs.Places.{recordAt}
 use Rattle.records.proofs.RecordLaws.{zeros-part}
 use Rattle.wellformed.specs.Good.{GoodPart}
-
-pub zeros-at : (xs : List ℕ) (i : ℕ) → zeros xs ≡ true → getD xs i 0 ≡ 0
-unfolding every
-zeros-at [] i h = refl
-zeros-at (x ∷ xs) zero h = eqb-true x 0 (and-left (eqb x 0) (zeros xs) h)
-zeros-at (x ∷ xs) (suc i) h = zeros-at xs i (and-right (eqb x 0) (zeros xs) h)
+use Rattle.wellformed.proofs.GoodIs.{zeros-at}
 
 pub zeros-good : (last : ℕ) (xs : List ℕ) → zeros xs ≡ true → GoodPart last xs
 unfolding recordOk
