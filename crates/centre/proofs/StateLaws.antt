@@ -20,9 +20,9 @@ pub own-same : (st : State) (a : ℕ) → granted (issued st a (lastAt st a)) a 
 own-same st a = ap (λ (u : State). granted u a (receiptsOf st a)) (issued-same st a) ∙ granted-same st a
 
 -- a session that ends, or goes on
-pub settled-put : (st : State) (t : List ℕ) (s a : ℕ) (ends : Bool) (o : Own)
+pub concluded-put : (st : State) (t : List ℕ) (s a : ℕ) (ends : Bool) (o : Own)
     → putOwn (if ends then putEntry (world st t) s Ended else world st t) a o
     ≡ world (issued (granted (if ends then ended st s else st) a (o .receipts)) a (o .last)) (putPart a (o .part) t)
 unfolding if_then_else_
-settled-put st t s a true o = refl
-settled-put st t s a false o = refl
+concluded-put st t s a true o = refl
+concluded-put st t s a false o = refl

@@ -86,7 +86,7 @@ fn take_open(book: &[u8], state: State, session: usize, octets: &[u8], space: &m
 }
 
 // A session that ends, or goes on with this receipt; the account's last id.
-fn settle(
+fn conclude(
     state: State,
     session: usize,
     account: usize,
@@ -141,7 +141,7 @@ fn take_bound(
     );
     let acted = handled.acted;
     let kept = handled.receipt;
-    let next = settle(state, session, account, acted.ends, kept, acted.last);
+    let next = conclude(state, session, account, acted.ends, kept, acted.last);
     Taken {
         number: acted.number,
         consumed: acted.consumed,

@@ -5,7 +5,7 @@ use lib.ListN.{getD}
 use lib.Dec.{eqb}
 use mathlib.Core.Bool.{not, _&&_}
 use Rattle.octets.specs.Choice.{if_then_else_}
-use Rattle.session.specs.State.{closedSession, entryAt, heldId, heldSequence}
+use Rattle.session.specs.State.{closedSession, entryAt, isReceiver, heldId, heldSequence}
 use Rattle.session.specs.declared.Entry.{Entry}
 use Rattle.session.specs.declared.Entry.the-variants.{Closed, Open, Transmitter, Receiver, Ended}
 use Rattle.session.specs.declared.Receipt.{Receipt}
@@ -55,18 +55,12 @@ entryAccount (Transmitter a) = a
 entryAccount (Receiver a) = a
 entryAccount Ended = 0
 
--- a receipt is told of a receiver alone
-abbrev pub toldReceipt : Entry → Receipt → Receipt
-toldReceipt Closed r = None
-toldReceipt Open r = None
-toldReceipt (Transmitter a) r = None
-toldReceipt (Receiver a) r = r
-toldReceipt Ended r = None
-
+-- session i in numbers; a receipt is told of a receiver alone
 unfoldable pub receiptAt : State → ℕ → Receipt
-receiptAt st i = toldReceipt (entryAt st i) (getD (st .sessions) i closedSession .receipt)
+receiptAt st i =
+    let x = getD (st .sessions) i closedSession in
+    if isReceiver (x .entry) then x .receipt else None
 
--- session i in numbers
 unfoldable pub kindAt : State → ℕ → ℕ
 kindAt st i = entryKind (entryAt st i)
 

@@ -12,7 +12,7 @@ use Rattle.session.specs.State.{sessionCount, accountCount, entryAt, opened, op
 use Rattle.session.specs.declared.Entry.{Entry}
 use Rattle.session.specs.declared.Entry.the-variants.{Closed, Open, Transmitter, Receiver, Ended}
 use Rattle.session.specs.declared.Moved.{Moved}
-use Rattle.isolation.specs.Platform.{partSize, tableSize, World, Own, putEntry, become, Step, opens, closes, on, of, Request, onSession, ofAccount, Effect, Ran, Machine, unchanged, ask, put, move, settle, onAccount, onEntry, onAfter, ofAfter, step}
+use Rattle.isolation.specs.Platform.{partSize, tableSize, World, Own, putEntry, become, Step, opens, closes, on, of, Request, onSession, ofAccount, Effect, Ran, Machine, unchanged, ask, put, move, conclude, onAccount, onEntry, onAfter, ofAfter, step}
 use Rattle.isolation.specs.History.{boundTo, boundIn, names, concerns, binds, reopened, anew, aloneStep}
 use Rattle.isolation.specs.Isolation.{Keeps}
 use Rattle.isolation.proofs.Sizes.{Sized, sized-entry, asked-length, sized-reopened}
@@ -91,21 +91,21 @@ module _ (m : Machine) (keeps : Keeps m) (b : m .Book) (A : ℕ) where
         subst (λ (r′ : Effect Own R). Alike A (put m w A r) (put m v A r′)) (ask-same w v alike q)
         (own-put w v alike z y r (asked-length m b w z keeps A q la) la)
 
-    own-settle : (s : ℕ) (x : X) (e : Entry) → ltb A accountCount ≡ true
-        → Alike A (settle m w s A (ask m b w A (onSession s e x))) (settle m v s A (ask m b v A (onSession s e x)))
-    own-settle s x e t =
+    own-conclude : (s : ℕ) (x : X) (e : Entry) → ltb A accountCount ≡ true
+        → Alike A (conclude m w s A (ask m b w A (onSession s e x))) (conclude m v s A (ask m b v A (onSession s e x)))
+    own-conclude s x e t =
         let la = ltb-true A accountCount t in
         let q = onSession s e x in
         let r = ask m b w A q in
         let lp = asked-length m b w z keeps A q la in
         let ended = own-entry w v alike s Ended (r .answer) .world in
-        subst (λ (r′ : Effect Own R). Alike A (settle m w s A r) (settle m v s A r′)) (ask-same w v alike q)
+        subst (λ (r′ : Effect Own R). Alike A (conclude m w s A r) (conclude m v s A r′)) (ask-same w v alike q)
         (if-both (λ (u u′ : World). Alike A (put m u A r) (put m u′ A r)) (r .ends) _ _ _ _
         (λ k. own-put (putEntry w s Ended) (putEntry v s Ended) ended (sized-entry w z s Ended) (sized-entry v y s Ended) r lp la)
         (λ k. own-put w v alike z y r lp la))
 
     own-onAccount : (s : ℕ) (x : X) (e : Entry) → Alike A (onAccount m b w s x e A) (onAccount m b v s x e A)
-    own-onAccount s x e = if-both (Alike A) (ltb A accountCount) _ _ _ _ (own-settle s x e) (λ t. own-unchanged w v alike (refusedOn 9 x))
+    own-onAccount s x e = if-both (Alike A) (ltb A accountCount) _ _ _ _ (own-conclude s x e) (λ t. own-unchanged w v alike (refusedOn 9 x))
 
     own-onEntry : (s : ℕ) (x : X) (e : Entry) → boundTo A e ≡ true → Alike A (onEntry m b w s x e) (onEntry m b v s x e)
     own-onEntry s x Closed h = absurd (true≢false (sym h))

@@ -132,11 +132,11 @@ module _ (m : Machine) where
   -- ---- on a session: 2, then what the arguments give, 6, 9, and then what the session's entry makes of it
 
   -- a session that ends, or goes on as it was; then what the account gives is put
-  abbrev pub settle : World → ℕ → ℕ → Effect Own R → Ran R
-  settle w s a r = put (if r .ends then putEntry w s Ended else w) a r
+  abbrev pub conclude : World → ℕ → ℕ → Effect Own R → Ran R
+  conclude w s a r = put (if r .ends then putEntry w s Ended else w) a r
 
   abbrev pub onAccount : Book → World → ℕ → X → Entry → ℕ → Ran R
-  onAccount b w s x e a = if ltb a accountCount then settle w s a (ask b w a (onSession s e x)) else unchanged w (refusedOn 9 x)
+  onAccount b w s x e a = if ltb a accountCount then conclude w s a (ask b w a (onSession s e x)) else unchanged w (refusedOn 9 x)
 
   abbrev pub onEntry : Book → World → ℕ → X → Entry → Ran R
   onEntry b w s x Closed = unchanged w (refusedOn 6 x)

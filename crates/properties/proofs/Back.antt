@@ -14,7 +14,7 @@ use Rattle.records.specs.Layout.{places}
 use Rattle.store.specs.Places.{recordAt}
 use Rattle.session.specs.declared.Entry.the-variants.{Ended}
 use Rattle.session.specs.declared.State.{State}
-use Rattle.isolation.specs.Platform.{World, partOf, partSize, owning, ownOf, putOwn, putEntry, Ran, unchanged, put, settle}
+use Rattle.isolation.specs.Platform.{World, partOf, partSize, owning, ownOf, putOwn, putEntry, Ran, unchanged, put, conclude}
 use Rattle.answers.specs.Answer.{Answer, numbered, picked}
 use Rattle.bound.specs.Bound.{keeping}
 use Rattle.centre.specs.Operations.{pickedFrom}
@@ -31,9 +31,9 @@ module _ (w : World) where
       (own-same (w .state) a) (patch-none (w .table) (partSize * a) partSize)
 
   -- on a session that goes on
-  pub settled-back : (s a : ℕ) (answer : Answer) → settle centre w s a (keeping answer (ownOf w a)) ≡ unchanged centre w answer
+  pub concluded-back : (s a : ℕ) (answer : Answer) → conclude centre w s a (keeping answer (ownOf w a)) ≡ unchanged centre w answer
   unfolding if_then_else_
-  settled-back s a answer = account-back a answer
+  concluded-back s a answer = account-back a answer
 
   -- a pick: a number other than 0, or a place and the record there
   pub pick-back : (book : List ℕ) (a : ℕ) (P : Ran Answer → Type 0) → ((n : ℕ) → (n ≡ 0 → ⊥) → P (unchanged centre w (numbered n)))

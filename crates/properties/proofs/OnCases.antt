@@ -12,7 +12,7 @@ use Rattle.octets.proofs.StretchLaws.{if-cases}
 use Rattle.session.specs.State.{sessionCount, accountCount, entryAt}
 use Rattle.session.specs.declared.Entry.{Entry}
 use Rattle.session.specs.declared.Entry.the-variants.{Closed, Open, Transmitter, Receiver, Ended}
-use Rattle.isolation.specs.Platform.{World, become, on, onSession, Ran, unchanged, ask, settle, onAccount, onEntry, step}
+use Rattle.isolation.specs.Platform.{World, become, on, onSession, Ran, unchanged, ask, conclude, onAccount, onEntry, step}
 use Rattle.isolation.specs.History.{boundTo}
 use Rattle.answers.specs.Answer.{Call, Answer, refusedCall}
 use Rattle.centre.specs.Centre.{centre, earlyCall, onFront}
@@ -46,7 +46,7 @@ module _ (book : List ℕ) (w : World) (s : ℕ) (x : Call) where
   pub record OnSession (P : Ran Answer → Type 0) : Type 0 where
     pub refused : (n : ℕ) → RefusedOn n → P (unchanged centre w (refusedCall n x))
     pub front : Passed → entryAt (w .state) s ≡ Open → (let f = onFront book x in P (record { answer = f .answer; world = become w s (f .after) }))
-    pub asked : Passed → (a : ℕ) (e : Entry) → BoundAs a e → P (settle centre w s a (ask centre book w a (onSession s e x)))
+    pub asked : Passed → (a : ℕ) (e : Entry) → BoundAs a e → P (conclude centre w s a (ask centre book w a (onSession s e x)))
 
   module _ (P : Ran Answer → Type 0) (each : OnSession P) where
     account-cases : Passed → (a : ℕ) (e : Entry) → entryAt (w .state) s ≡ e → boundTo a e ≡ true → P (onAccount centre book w s x e a)

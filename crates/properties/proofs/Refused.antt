@@ -5,14 +5,14 @@ use mathlib.Core.List.{List}
 use Rattle.records.specs.Book.{bookRecord}
 use Rattle.session.specs.State.{receiverOf}
 use Rattle.session.specs.declared.Entry.{Entry}
-use Rattle.isolation.specs.Platform.{World, Own, owning, ownOf, become, Step, opens, closes, on, of, Effect, Front, Ran, unchanged, put, settle, step}
+use Rattle.isolation.specs.Platform.{World, Own, owning, ownOf, become, Step, opens, closes, on, of, Effect, Front, Ran, unchanged, put, conclude, step}
 use Rattle.answers.specs.Answer.{Octets, Delivery, taking, delivering, Call, Outcome, Question, outcome, pick, Answer, numbered, refusedOctets, refusedDelivery, numberOf}
 use Rattle.open.specs.Open.{onOpen}
 use Rattle.bound.specs.Bound.{Turn, keeping, isTransmitter}
 use Rattle.centre.specs.Operations.{Noted, noted}
 use Rattle.centre.specs.Centre.{centre, onOctets, onDelivery, act}
 use Rattle.properties.specs.Property1.{refusal}
-use Rattle.properties.proofs.Back.{account-back, settled-back, pick-back}
+use Rattle.properties.proofs.Back.{account-back, concluded-back, pick-back}
 use Rattle.properties.proofs.OpenCases.{open-cases}
 use Rattle.properties.proofs.TurnCases.{any-turn}
 use Rattle.properties.proofs.BoundCases.{bound-cases}
@@ -40,25 +40,25 @@ module _ (w : World) where
       })
 
   module _ (book : List ℕ) (s a : ℕ) (e : Entry) where
-    refused-octets : (x : Octets) → Refuses (on s (taking x)) (settle centre w s a (onOctets (isTransmitter e) book s x (ownOf w a)))
+    refused-octets : (x : Octets) → Refuses (on s (taking x)) (conclude centre w s a (onOctets (isTransmitter e) book s x (ownOf w a)))
     refused-octets x =
-        bound-cases book s x (ownOf w a) (λ (r : Effect Own Answer). Refuses (on s (taking x)) (settle centre w s a r)) (λ (t : Turn). Unit) (isTransmitter e)
-        (λ _ _. settled-back w s a (refusedOctets 9 x))
+        bound-cases book s x (ownOf w a) (λ (r : Effect Own Answer). Refuses (on s (taking x)) (conclude centre w s a r)) (λ (t : Turn). Unit) (isTransmitter e)
+        (λ _ _. concluded-back w s a (refusedOctets 9 x))
         (λ _. any-turn _ _ _)
         (λ _. record {
-          more = λ _. settled-back w s a (refusedOctets 1 x);
+          more = λ _. concluded-back w s a (refusedOctets 1 x);
           nak = λ ne. absurd (ne refl);
           quiet = λ _ _ ne. absurd (ne refl);
           replies = λ _ _ _ _ _ ne. absurd (ne refl);
         })
 
-    refused-delivery : (y : Delivery) → Refuses (on s (delivering y)) (settle centre w s a (onDelivery (receiverOf a e) book s y (ownOf w a)))
+    refused-delivery : (y : Delivery) → Refuses (on s (delivering y)) (conclude centre w s a (onDelivery (receiverOf a e) book s y (ownOf w a)))
     refused-delivery y =
-        delivery-cases (receiverOf a e) book s y (ownOf w a) (λ (r : Effect Own Answer). Refuses (on s (delivering y)) (settle centre w s a r))
+        delivery-cases (receiverOf a e) book s y (ownOf w a) (λ (r : Effect Own Answer). Refuses (on s (delivering y)) (conclude centre w s a r))
         (record {
-          ill = λ _ _. settled-back w s a (refusedDelivery 9 y);
-          unfit = λ _ _. settled-back w s a (refusedDelivery 12 y);
-          nothing = λ _ _. settled-back w s a (refusedDelivery 13 y);
+          ill = λ _ _. concluded-back w s a (refusedDelivery 9 y);
+          unfit = λ _ _. concluded-back w s a (refusedDelivery 12 y);
+          nothing = λ _ _. concluded-back w s a (refusedDelivery 13 y);
           sends = λ _ _ _ _ _ ne. absurd (ne refl);
         })
 

@@ -8,7 +8,7 @@ use lib.ListN.{getD}
 use borrow.Author.Tests.{eqb-true}
 use Rattle.octets.proofs.StretchLaws.{if-cases}
 use Rattle.store.specs.Account.{accountOk}
-use Rattle.session.specs.State.{accountCount, entryAt, receiverOf, receiptsOf}
+use Rattle.session.specs.State.{accountCount, entryAt, receiverOf, receiptsOf, isReceiver}
 use Rattle.session.specs.declared.Entry.{Entry}
 use Rattle.session.specs.declared.Entry.the-variants.{Closed, Open, Transmitter, Receiver, Ended}
 use Rattle.session.specs.declared.Receipt.the-variants.{None}
@@ -18,7 +18,7 @@ use Rattle.answers.specs.Answer.{Octets, Delivery, Call, taking, delivering, Qu
 use Rattle.bound.specs.Bound.{isTransmitter, Hand, onBound}
 use Rattle.centre.specs.Operations.{Noted}
 use Rattle.centre.specs.Centre.{centre, onOctets, onDelivery, act}
-use Rattle.properties.specs.Property1.{wellFormed, isLive, isReceiver, Right}
+use Rattle.properties.specs.Property1.{wellFormed, isLive, Right}
 use Rattle.properties.proofs.Early.{early-octets, early-delivery, early-outcome, early-pick}
 use Rattle.properties.proofs.DeliveryCases.{delivery-cases}
 use Rattle.properties.proofs.QuestionCases.{noted-cases, picked-cases}

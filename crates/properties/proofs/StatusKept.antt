@@ -8,7 +8,7 @@ use Rattle.answers.specs.Reply.{header, reply, over}
 use Rattle.records.specs.Book.{bookRecord}
 use Rattle.session.specs.declared.Entry.{Entry}
 use Rattle.session.specs.declared.Entry.the-variants.{Closed, Open, Transmitter, Receiver, Ended}
-use Rattle.isolation.specs.Platform.{World, Own, ownOf, become, on, Effect, Ran, settle, step}
+use Rattle.isolation.specs.Platform.{World, Own, ownOf, become, on, Effect, Ran, conclude, step}
 use Rattle.answers.specs.Answer.{Octets, taking, Answer, repliedTo}
 use Rattle.open.specs.Open.{onOpen}
 use Rattle.bound.specs.Bound.{Turn, isTransmitter}
@@ -36,10 +36,10 @@ module _ (w : World) where
     abbrev Kept : Ran Answer → Type 0
     Kept r = (writtenOf (r .answer) ≡ 0 → ⊥) → (statusOf (r .answer) ≡ 0 → ⊥) → SameStored w (r .world)
 
-    kept-octets : (entry : List ℕ) (e : Entry) (a : ℕ) → Kept (settle centre w s a (onOctets (isTransmitter e) entry s x (ownOf w a)))
+    kept-octets : (entry : List ℕ) (e : Entry) (a : ℕ) → Kept (conclude centre w s a (onOctets (isTransmitter e) entry s x (ownOf w a)))
     kept-octets entry e a =
         let own = ownOf w a in
-        bound-cases entry s x own (λ (r : Effect Own Answer). Kept (settle centre w s a r))
+        bound-cases entry s x own (λ (r : Effect Own Answer). Kept (conclude centre w s a r))
         -- a turn with a status leaves the account as it was
         (λ (t : Turn). (t .status ≡ 0 → ⊥) → (t .stored .part ≡ own .part) × (t .stored .last ≡ own .last)) (isTransmitter e)
         (λ _ none _. absurd (none refl))

@@ -14,7 +14,7 @@ use Rattle.forms.specs.Time.{sentTime}
 use Rattle.answers.specs.Reply.{spaceNeeded}
 use Rattle.records.specs.Book.{bookSize, bookRecord}
 use Rattle.store.specs.Account.{accountOk}
-use Rattle.session.specs.State.{sessionCount, accountCount, entryAt, lastAt, receiptsOf}
+use Rattle.session.specs.State.{sessionCount, accountCount, entryAt, lastAt, isReceiver, receiptsOf}
 use Rattle.session.specs.declared.Entry.{Entry}
 use Rattle.session.specs.declared.Receipt.the-variants.{None}
 use Rattle.session.specs.declared.Entry.the-variants.{Closed, Open, Transmitter, Receiver, Ended}
@@ -64,14 +64,6 @@ isLive Open = true
 isLive (Transmitter a) = true
 isLive (Receiver a) = true
 isLive Ended = false
-
--- a session that a receipt can be written to
-abbrev pub isReceiver : Entry → Bool
-isReceiver Closed = false
-isReceiver Open = false
-isReceiver (Transmitter a) = false
-isReceiver (Receiver a) = true
-isReceiver Ended = false
 
 -- session, buffers, time stamp and stored records of a step are right; on a session the records are those of the account that it is bound to; a
 -- receipt is written to a receiver on which none is outstanding

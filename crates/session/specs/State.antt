@@ -1,7 +1,7 @@
 -- The state and what opening, closing, binding and unbinding make of it (document 01, "What the centre does" and "Numbers a caller gets"), and the
 -- receipts that are outstanding (document 02, 1).
 use Prim.Native.Nat.{ℕ}
-use mathlib.Core.Bool.{Bool, false}
+use mathlib.Core.Bool.{Bool, true, false}
 use mathlib.Core.List.{List, [], _∷_, map}
 use lib.ListN.{getD, set, replicate}
 use lib.Dec.{leb, eqb}
@@ -45,6 +45,13 @@ abbrev pub issued : State → ℕ → ℕ → State
 issued st a last = record { sessions = st .sessions; lasts = set (st .lasts) a last }
 
 -- ---- receipts: only a receiver's counts
+
+abbrev pub isReceiver : Entry → Bool
+isReceiver Closed = false
+isReceiver Open = false
+isReceiver (Transmitter a) = false
+isReceiver (Receiver a) = true
+isReceiver Ended = false
 
 abbrev pub receiverOf : ℕ → Entry → Bool
 receiverOf a Closed = false

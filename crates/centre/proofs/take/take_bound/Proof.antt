@@ -15,7 +15,7 @@ use Rattle.session.specs.State.{receiptsOf}
 use Rattle.isolation.specs.Platform.{owning}
 use Rattle.session.proofs.ReceiptLaws.{receipts-at}
 use Rattle.centre.specs.Centre.{act, onOctets, takes}
-use Rattle.centre.proofs.StateLaws.{settled-put}
+use Rattle.centre.proofs.StateLaws.{concluded-put}
 use borrow.Author.Needs.{needs}
 use Rattle.centre.proofs.take.take_bound.Statement.{statement}
 use Rattle.centre.proofs.take.take_bound.Tie as tie
@@ -63,8 +63,8 @@ part-on-bound-end c = search needs
 on-bound-requires : tie.Need-on-bound-requires
 on-bound-requires c κs = search needs
 
-settle-requires : tie.Need-settle-requires
-settle-requires c κs = (c .before .before .before .before .before .before .before .before .before .before .before .before .before .before .before .before .before .before .pre .0 .1 .0, c .before .before .before .before .before .before .before .before .before .before .before .before .if1 .left)
+conclude-requires : tie.Need-conclude-requires
+conclude-requires c κs = (c .before .before .before .before .before .before .before .before .before .before .before .before .before .before .before .before .before .before .pre .0 .1 .0, c .before .before .before .before .before .before .before .before .before .before .before .before .if1 .left)
 
 same-length : tie.Need-same-length
 same-length c = search needs
@@ -79,11 +79,11 @@ returns-2 c = let g = c .before .before .before .before .before .before .before 
     let t = g .table .now in
     let b = c .before .before .before .before .before .before .on-bound in
     let back = b .last .1 .1 .1 .1 .1 .0 in
-    let r : Taken = record { number = b .result .acted .number; consumed = b .result .acted .consumed; written = b .result .acted .written; state = c .settle .result } in
+    let r : Taken = record { number = b .result .acted .number; consumed = b .result .acted .consumed; written = b .result .acted .written; state = c .conclude .result } in
     let e = rw (add-sub-cancel-left at 4096) at (b .ensures) in
     let n : length back ≡ 4096 = (rw (add-sub-cancel-left at 4096) at (b .kept .1 .1 .1 .1 .1 .0)) ∙ part-length at 4096 t (omega (arith, c .before .before .before .before .before .before .before .before .before .before .before .before .before .before .before .before .before .before .before .pre .0 .0 .1, c .before .before .before .before .before .before .before .before .before .before .before .before .before .if1 .left)) in
     ap (λ (l : List ℕ). takes r l (b .last .1 .1 .1 .1 .0)) (part-back t at 4096 back n (omega (arith, c .before .before .before .before .before .before .before .before .before .before .before .before .before .before .before .before .before .before .before .pre .0 .0 .1, c .before .before .before .before .before .before .before .before .before .before .before .before .before .if1 .left)))
-    ∙ rw (lt-ltb _ _ (c .before .before .before .before .before .before .before .before .before .before .before .before .before .if1 .left), c .before .before .before .before .before .before .before .before .before .before .before .before .before .before .before .before .before .before .before .pre .0 .1 .1, ← (held (c .before .before .before .before .before .before .before .before .before .before .before .before .record-of .ensures .0)), receipts-at (g .t3) (g .a) (g .session), ← (c .before .before .before .before .before .before .before .before .before .receipt-for .ensures), ← e, settled-put (g .t3) t (g .session) (g .a) (b .result .acted .ends) (owning back (b .result .acted .last) (set (receiptsOf (g .t3) (g .a)) (g .session) (b .result .receipt))), c .settle .ensures)
+    ∙ rw (lt-ltb _ _ (c .before .before .before .before .before .before .before .before .before .before .before .before .before .if1 .left), c .before .before .before .before .before .before .before .before .before .before .before .before .before .before .before .before .before .before .before .pre .0 .1 .1, ← (held (c .before .before .before .before .before .before .before .before .before .before .before .before .record-of .ensures .0)), receipts-at (g .t3) (g .a) (g .session), ← (c .before .before .before .before .before .before .before .before .before .receipt-for .ensures), ← e, concluded-put (g .t3) t (g .session) (g .a) (b .result .acted .ends) (owning back (b .result .acted .last) (set (receiptsOf (g .t3) (g .a)) (g .session) (b .result .receipt))), c .conclude .ensures)
 
 pub take-bound-spec : {M : Type 1} → statement M
 take-bound-spec =
@@ -103,7 +103,7 @@ take-bound-spec =
     part-on-bound-start
     part-on-bound-end
     on-bound-requires
-    settle-requires
+    conclude-requires
     same-length
     same-length-2
     returns-2)

@@ -1,4 +1,5 @@
 -- `inverook::flat::receipt_at` meets its contract. Assumes nothing.
+use Rattle.octets.specs.Choice.{if_then_else_}
 use Rattle.inverook.specs.Flat.{receiptAt}
 use borrow.Author.Needs.{needs}
 use Rattle.inverook.proofs.flat.receipt_at.Statement.{statement}
@@ -26,23 +27,23 @@ enum-told-5 : tie.Need-enum-told-5
 enum-told-5 c = search needs
 
 returns : tie.Need-returns
-unfolding receiptAt
+unfolding receiptAt if_then_else_
 returns c = rw (c .enum-told .given .1)
 
 returns-2 : tie.Need-returns-2
-unfolding receiptAt
+unfolding receiptAt if_then_else_
 returns-2 c = rw (c .enum-told2 .given .1)
 
 returns-3 : tie.Need-returns-3
-unfolding receiptAt
+unfolding receiptAt if_then_else_
 returns-3 c = rw (c .enum-told3 .given .1)
 
 returns-4 : tie.Need-returns-4
-unfolding receiptAt
+unfolding receiptAt if_then_else_
 returns-4 c = rw (c .enum-told4 .given .1)
 
 returns-5 : tie.Need-returns-5
-unfolding receiptAt
+unfolding receiptAt if_then_else_
 returns-5 c = rw (c .enum-told5 .given .1)
 
 pub receipt-at-spec : {M : Type 1} → statement M

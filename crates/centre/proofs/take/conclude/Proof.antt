@@ -1,12 +1,12 @@
--- `centre::take::settle` meets its contract. Assumes nothing.
+-- `centre::take::conclude` meets its contract. Assumes nothing.
 use mathlib.Core.Path.{sym, ap, _∙_}
 use Rattle.octets.specs.Choice.{if_then_else_}
 use Rattle.session.specs.State.{issued}
 use Rattle.session.specs.declared.State.{State}
 use Rattle.session.proofs.ReceiptLaws.{granted-ended}
 use borrow.Author.Needs.{needs}
-use Rattle.centre.proofs.take.settle.Statement.{statement}
-use Rattle.centre.proofs.take.settle.Tie as tie
+use Rattle.centre.proofs.take.conclude.Statement.{statement}
+use Rattle.centre.proofs.take.conclude.Tie as tie
 
 unbind-requires : tie.Need-unbind-requires
 unbind-requires c κs = search needs
@@ -27,5 +27,5 @@ returns-2 : tie.Need-returns-2
 unfolding if_then_else_
 returns-2 c = rw (c .before .if1 .left) (c .grant .ensures)
 
-pub settle-spec : {M : Type 1} → statement M
-settle-spec = tie.close (tie.spec unbind-requires issue-requires grant-requires returns returns-2)
+pub conclude-spec : {M : Type 1} → statement M
+conclude-spec = tie.close (tie.spec unbind-requires issue-requires grant-requires returns returns-2)
