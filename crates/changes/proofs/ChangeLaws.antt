@@ -1,12 +1,12 @@
 -- The pieces of a record, put one after the other, are the record. Assumes nothing.
 use mathlib.Core.Path.{_≡_, sym, ap, _∙_}
 use mathlib.Core.List.{List, [], _∷_, _++_, append-assoc, append-nil}
-use Prim.Native.Nat.{ℕ, _+_, _-_, _≤_}
+use Prim.Native.Nat.{ℕ, _+_, _≤_}
 use native.Mathlib.Omega.{arith}
 use native.Mathlib.Nat.{add-assoc}
-use lib.ListN.{length, replicate, length-append, length-replicate}
+use lib.ListN.{length, replicate, length-append}
 use Rattle.octets.specs.Stretch.{patch, padded}
-use Rattle.octets.proofs.PatchLaws.{patch-next, patch-zeros, padded-put, padded-padded}
+use Rattle.octets.proofs.PatchLaws.{patch-next, padded-length, patch-zeros, padded-put, padded-padded}
 use Rattle.changes.specs.Change.{head, terms, message}
 use Rattle.changes.specs.declared.Fields.{Fields}
 
@@ -24,9 +24,6 @@ pieces4 xs at n m l a b c d e f g =
     let joined : at + length (a ++ (b ++ c)) ≡ l = rw (length-append a (b ++ c), length-append b c) (omega arith) in
     ap (λ (ys : List ℕ). patch ys l d) (pieces3 xs at n m a b c e f)
     ∙ (rw (← joined) (patch-next xs at (a ++ (b ++ c)) d) ∙ ap (patch xs at) (append-assoc a (b ++ c) d ∙ ap (λ (ys : List ℕ). a ++ ys) (append-assoc b c d)))
-
-padded-length : (n : ℕ) (a : List ℕ) → length a ≤ n → length (padded n a) ≡ n
-padded-length n a h = rw (length-append a (replicate (n - length a) 0), length-replicate {A = ℕ} (n - length a) 0) (omega arith)
 
 -- head, terms and message put into zeros
 pub assembled : (id : ℕ) (f : Fields) (service text before behind : List ℕ)

@@ -68,6 +68,9 @@ drop-replicate zero m a = rw (sub-zero m)
 drop-replicate (suc n) zero a = rw (zero-sub (suc n))
 drop-replicate (suc n) (suc m) a = rw (suc-sub-suc m n) (drop-replicate n m a)
 
+pub padded-length : (n : ℕ) (text : List ℕ) → length text ≤ n → length (padded n text) ≡ n
+padded-length n text h = rw (length-append text (replicate (n - length text) 0), length-replicate {A = ℕ} (n - length text) 0) (omega arith)
+
 -- a text put into zeros
 pub patch-zeros : (n : ℕ) (text : List ℕ) → length text ≤ n → patch (replicate n 0) 0 text ≡ padded n text
 patch-zeros n text h =
@@ -83,7 +86,7 @@ padded-put n at a b e h =
 -- zeros put behind a text are there already
 pub padded-padded : (n m : ℕ) (a b : List ℕ) → length b ≤ m → length a + m ≤ n → padded n (a ++ padded m b) ≡ padded n (a ++ b)
 padded-padded n m a b h k =
-    let l : length (b ++ replicate (m - length b) 0) ≡ m = rw (length-append b (replicate (m - length b) 0), length-replicate {A = ℕ} (m - length b) 0) (omega arith) in
+    let l : length (b ++ replicate (m - length b) 0) ≡ m = padded-length m b h in
     let e : (m - length b) + (n - (length a + m)) ≡ n - (length a + length b) = omega arith in
     rw (length-append a (b ++ replicate (m - length b) 0), l, length-append a b, append-assoc a (b ++ replicate (m - length b) 0) (replicate (n - (length a + m)) 0), append-assoc b (replicate (m - length b) 0) (replicate (n - (length a + m)) 0), replicate-append-replicate {A = ℕ} (m - length b) (n - (length a + m)) 0, e, append-assoc a b (replicate (n - (length a + length b)) 0))
 

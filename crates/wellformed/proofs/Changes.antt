@@ -11,7 +11,7 @@ use borrow.Author.Tests.{eqb-true}
 use Rattle.octets.specs.Stretch.{part, patch, padded, isZero, zeros}
 use Rattle.octets.specs.Number.{number}
 use Rattle.octets.proofs.StretchLaws.{if-cases, part-part}
-use Rattle.octets.proofs.PatchLaws.{patch-length, part-patch, part-before, part-after, octet-before, octet-inside}
+use Rattle.octets.proofs.PatchLaws.{patch-length, part-patch, part-before, part-after, octet-before, octet-inside, padded-length}
 use Rattle.forms.specs.Field.{isField}
 use Rattle.forms.specs.Time.{sentTime, storedTime}
 use Rattle.forms.specs.declared.text.Form.the-variants.{Ascii}
@@ -24,7 +24,7 @@ use Rattle.changes.specs.declared.Correction.{Correction}
 use Rattle.wellformed.specs.Rules.{Timed}
 use Rattle.wellformed.specs.Good.{GoodEnd, GoodMark, GoodWords, Good}
 use Rattle.wellformed.proofs.GoodIs.{or-one, or-second, no-mark}
-use Rattle.wellformed.proofs.TextFields.{padded-length, every-replicate, sent-stored}
+use Rattle.wellformed.proofs.TextFields.{every-replicate, sent-stored}
 
 -- ---- equal stretches have equal parts and octets
 

@@ -10,6 +10,7 @@ use lib.Seq.{getD-drop, take-at, drop-at, drop-drop, drop-append-seam}
 use Rattle.octets.specs.Stretch.{part, padded, every, isZero, zeros}
 use Rattle.octets.specs.Number.{number, octets4}
 use Rattle.octets.proofs.NumberLaws.{octets4-length, number-octets4}
+use Rattle.octets.proofs.PatchLaws.{padded-length}
 use Rattle.forms.specs.Time.{sentTime, storedTime}
 use Rattle.forms.specs.Field.{isField}
 use Rattle.forms.specs.declared.text.Form.the-variants.{Ascii}
@@ -20,7 +21,7 @@ use Rattle.changes.specs.declared.Fields.{Fields}
 use Rattle.wellformed.specs.Rules.{Timed}
 use Rattle.wellformed.specs.Good.{Good, GoodFields}
 use Rattle.wellformed.proofs.GoodIs.{or-one, or-either, no-mark}
-use Rattle.wellformed.proofs.TextFields.{padded-length, every-replicate, sent-stored}
+use Rattle.wellformed.proofs.TextFields.{every-replicate, sent-stored}
 
 -- what stands at k, and what stands behind it
 module _ (r a c : List ℕ) (k m : ℕ) (e : drop k r ≡ a ++ c) (size : length a ≡ m) where

@@ -11,6 +11,7 @@ use lib.Seq.{take-all, take-take, length-take-le}
 use lib.Dec.{eqb}
 use borrow.Author.Tests.{eqb-true, eqb-false, ne-eqb, ltb-false}
 use Rattle.octets.specs.Stretch.{every, zeros, padded}
+use Rattle.octets.proofs.PatchLaws.{padded-length}
 use Rattle.octets.proofs.StretchLaws.{and-left, and-true, if-cases, if-true}
 use Rattle.forms.specs.Class.{inClass, lead}
 use Rattle.forms.specs.Text.{formed}
@@ -29,7 +30,7 @@ use Rattle.wire.proofs.FieldLaws.{inside, octet-within, span-within, short-with
 use Rattle.requests.specs.Submit.{submitOf}
 use Rattle.requests.specs.Replace.{replaceOf}
 use Rattle.wellformed.specs.Rules.{Text, Addressed, Timed, Worded, SubmitHolds, ReplaceHolds}
-use Rattle.wellformed.proofs.TextFields.{padded-length, padded-field, every-lead}
+use Rattle.wellformed.proofs.TextFields.{padded-field, every-lead}
 
 -- ---- a text of fewer than `most` octets, where none is a text of the form
 

@@ -2,9 +2,8 @@
 use mathlib.Core.Path.{_≡_, refl, ap, _∙_}
 use mathlib.Core.Bool.{Bool, true}
 use mathlib.Core.List.{List, [], _∷_, _++_}
-use Prim.Native.Nat.{ℕ, zero, suc, _-_, _≤_}
-use native.Mathlib.Omega.{arith}
-use lib.ListN.{length, take, replicate, length-append, length-replicate}
+use Prim.Native.Nat.{ℕ, zero, suc, _-_}
+use lib.ListN.{length, take, replicate}
 use lib.Seq.{take-append-seam, drop-append-seam}
 use Rattle.octets.specs.Choice.{if_then_else_}
 use Rattle.octets.specs.Stretch.{every, isZero, padded}
@@ -15,9 +14,6 @@ use Rattle.forms.specs.Time.{sentTime, storedTime}
 use Rattle.forms.specs.Field.{textOf, isField}
 use Rattle.forms.specs.declared.class.Class.the-variants.{NotNul}
 use Rattle.forms.specs.declared.text.Form.{Form}
-
-pub padded-length : (n : ℕ) (text : List ℕ) → length text ≤ n → length (padded n text) ≡ n
-padded-length n text h = rw (length-append text (replicate (n - length text) 0), length-replicate {A = ℕ} (n - length text) 0) (omega arith)
 
 pub every-replicate : (p : ℕ → Bool) (n a : ℕ) → p a ≡ true → every p (replicate n a) ≡ true
 unfolding every
@@ -49,13 +45,19 @@ lead-zeros zero = refl
 lead-zeros (suc n) = refl
 
 -- a text without a NUL, zeros behind it, is a field with that text
+padded-lead : (n : ℕ) (text : List ℕ) → every (inClass NotNul) text ≡ true → lead (inClass NotNul) (padded n text) ≡ length text
+padded-lead n text noNul =
+    lead-append (inClass NotNul) text (replicate (n - length text) 0) (lead-zeros (n - length text)) ∙ lead-all (inClass NotNul) text noNul
+
+pub padded-text : (n : ℕ) (text : List ℕ) → every (inClass NotNul) text ≡ true → textOf (padded n text) ≡ text
+unfolding textOf
+padded-text n text noNul = rw (padded-lead n text noNul) (take-append-seam text (replicate (n - length text) 0))
+
 pub padded-field : (form : Form) (n : ℕ) (text : List ℕ) → every (inClass NotNul) text ≡ true → formed form text ≡ true → isField form (padded n text) ≡ true
-unfolding isField textOf
+unfolding isField
 padded-field form n text noNul h =
-    let m = n - length text in
-    let e : lead (inClass NotNul) (text ++ replicate m 0) ≡ length text =
-    lead-append (inClass NotNul) text (replicate m 0) (lead-zeros m) ∙ lead-all (inClass NotNul) text noNul in
-    rw (e, take-append-seam text (replicate m 0), drop-append-seam text (replicate m 0)) (and-both (formed form text) _ h (every-replicate isZero m 0 refl))
+    rw (padded-text n text noNul, padded-lead n text noNul, drop-append-seam text (replicate (n - length text) 0))
+    (and-both (formed form text) _ h (every-replicate isZero (n - length text) 0 refl))
 
 -- ---- a time that is sent may be stored
 
