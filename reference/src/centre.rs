@@ -16,6 +16,7 @@ mod receipt;
 mod refusal;
 mod reply;
 mod request;
+mod same;
 mod state;
 mod status;
 mod take;
@@ -29,10 +30,11 @@ pub use party::Party;
 pub use receipt::LONGEST_RECEIPT;
 pub use refusal::{Refusal, DONE};
 pub use reply::LONGEST_REPLY;
+pub use same::Same;
 pub use state::{Entry, PlainState, Receipt, State, ACCOUNTS, SESSIONS};
 pub use status::Status;
 pub use take::{Taken, LONGEST_PDU};
-pub use text::{is_time, message_id, STAMP};
+pub use text::{is_time, message_id, without_leading_spaces, STAMP};
 
 /// The size of the whole account book.
 pub const BOOK: usize = ACCOUNTS * BOOK_RECORD;

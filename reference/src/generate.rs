@@ -208,8 +208,12 @@ impl Generator {
         request(self, account)
     }
 
+    /// A bind, seldom to an account that can't be bound.
     fn bind_request(&mut self) -> Request {
-        let account = self.an_account();
+        let mut account = self.an_account();
+        if !self.can_be_bound(account) {
+            account = self.an_account();
+        }
         let role = if self.random.percent(80) {
             Role::Transmitter
         } else {

@@ -20,7 +20,7 @@ pub enum Form {
 }
 
 // The text without its leading spaces.
-fn after_spaces(text: &[u8]) -> &[u8]
+pub fn after_spaces(text: &[u8]) -> &[u8]
     ensures { λ r. ⌜ lent r ≡ afterSpacesPart (lent (text .entry)) ⌝ }
 {
     let n = class::lead_of(text, Class::Space);
@@ -28,7 +28,7 @@ fn after_spaces(text: &[u8]) -> &[u8]
 }
 
 // At least one octet, and every one of the class.
-fn is_given(text: &[u8], class: Class) -> bool
+pub fn is_given(text: &[u8], class: Class) -> bool
     ensures { λ r. ⌜ r ≡ givenAll (inClass class) (now (text .entry)) ⌝ }
 {
     (0 < text.len()) & class::is_all(text, class)

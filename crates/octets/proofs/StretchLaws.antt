@@ -1,17 +1,17 @@
 -- Laws of the tests on stretches and of `part`. Assumes nothing.
-use mathlib.Core.Path.{_≡_, refl, sym, ap, _∙_}
+use mathlib.Core.Path.{_≡_, refl, sym, ap, subst, _∙_}
 use mathlib.Core.Bool.{Bool, true, false, _&&_, _||_, false≢true}
-use mathlib.Core.List.{List, [], _∷_}
+use mathlib.Core.List.{List, [], _∷_, _++_}
 use Prim.Native.Nat.{ℕ, zero, suc, _+_, _-_, _≤_, _<_}
 use native.Mathlib.Omega.{arith}
-use native.Mathlib.Nat.{add-sub-cancel-left, sub-zero, zero-sub, suc-sub-suc}
+use native.Mathlib.Nat.{add-sub-cancel-left, zero-add, suc-add, sub-zero, zero-sub, suc-sub-suc}
 use native.Mathlib.Numerals.{add-one}
-use lib.ListN.{length, take, drop, getD, set, length-take, length-drop, drop-of-length-le}
+use lib.ListN.{length, take, drop, getD, set, replicate, length-take, length-drop, drop-of-length-le}
 use lib.Seq.{drop-cons, take-nil, take-all, take-take, drop-drop, drop-length}
 use lib.Dec.{eqb}
-use borrow.Author.Tests.{eqb-true}
+use borrow.Author.Tests.{eqb-true, eq-eqb}
 use Rattle.octets.specs.Choice.{if_then_else_}
-use Rattle.octets.specs.Stretch.{same, every, among, part}
+use Rattle.octets.specs.Stretch.{same, every, zeros, among, part}
 
 -- ---- tests that hold together
 
@@ -37,6 +37,12 @@ and-true false = refl
 pub and-false : (a : Bool) → (a && false) ≡ false
 and-false true = refl
 and-false false = refl
+
+-- two tests, each of which holds where the other does
+pub both-ways : (a b : Bool) → (a ≡ true → b ≡ true) → (b ≡ true → a ≡ true) → a ≡ b
+both-ways true b p q = sym (p refl)
+both-ways false true p q = q refl
+both-ways false false p q = refl
 
 -- ---- tests of which none holds
 
@@ -99,6 +105,20 @@ every-set p (x ∷ xs) zero y h g = and-both (p y) (every p xs) g (and-right (p 
 every-set p (x ∷ xs) (suc i) y h g =
     and-both (p x) (every p (set xs i y)) (and-left (p x) (every p xs) h) (every-set p xs i y (and-right (p x) (every p xs) h) g)
 
+-- what each element passes, each of a part does
+pub every-drop : (p : ℕ → Bool) (n : ℕ) (xs : List ℕ) → every p xs ≡ true → every p (drop n xs) ≡ true
+unfolding every
+every-drop p zero xs h = h
+every-drop p (suc n) [] h = h
+every-drop p (suc n) (x ∷ xs) h = every-drop p n xs (and-right (p x) (every p xs) h)
+
+pub every-take : (p : ℕ → Bool) (n : ℕ) (xs : List ℕ) → every p xs ≡ true → every p (take n xs) ≡ true
+unfolding every
+every-take p zero xs h = refl
+every-take p (suc n) [] h = refl
+every-take p (suc n) (x ∷ xs) h =
+    and-both (p x) (every p (take n xs)) (and-left (p x) (every p xs) h) (every-take p n xs (and-right (p x) (every p xs) h))
+
 -- ---- among: the same loop, with the finds so far in `so`
 
 pub among-turn : (n : ℕ) (so : Bool) (xs : List ℕ) (i : ℕ) → i < length xs
@@ -139,6 +159,51 @@ same-equal (x ∷ xs) (y ∷ ys) h =
     let first = eqb-true x y (and-left (eqb x y) (same xs ys) h) in
     let others = same-equal xs ys (and-right (eqb x y) (same xs ys) h) in
     cc
+
+pub same-refl : (a : List ℕ) → same a a ≡ true
+unfolding same
+same-refl [] = refl
+same-refl (x ∷ xs) = and-both (eqb x x) (same xs xs) (eq-eqb x x refl) (same-refl xs)
+
+pub same-sym : (a b : List ℕ) → same a b ≡ same b a
+same-sym a b = both-ways (same a b) (same b a) (back a b) (back b a)
+  where
+    back : (a b : List ℕ) → same a b ≡ true → same b a ≡ true
+    back a b h = subst (λ (l : List ℕ). same l a ≡ true) (same-equal a b h) (same-refl a)
+
+-- the first n octets and the others, apart
+pub same-apart : (n : ℕ) (a b : List ℕ) → (same (take n a) (take n b) && same (drop n a) (drop n b)) ≡ same a b
+unfolding same
+same-apart zero a b = refl
+same-apart (suc n) [] [] = refl
+same-apart (suc n) [] (y ∷ ys) = refl
+same-apart (suc n) (x ∷ xs) [] = refl
+same-apart (suc n) (x ∷ xs) (y ∷ ys) =
+    and-assoc (eqb x y) (same (take n xs) (take n ys)) (same (drop n xs) (drop n ys)) ∙ ap (λ (t : Bool). eqb x y && t) (same-apart n xs ys)
+
+-- two stretches that zeros fill up to one length: equal as far as both go, and zeros behind that
+zeros-filled : (n : ℕ) (xs : List ℕ) → same (xs ++ replicate n 0) (replicate (length xs + n) 0) ≡ zeros xs
+unfolding same every
+zeros-filled n [] = rw (zero-add n) (same-refl (replicate n 0))
+zeros-filled n (x ∷ xs) = rw (suc-add (length xs) n) (ap (λ (t : Bool). eqb x 0 && t) (zeros-filled n xs))
+
+pub same-filled : (m n : ℕ) (a b : List ℕ) → length a + m ≡ length b + n
+    → same (a ++ replicate m 0) (b ++ replicate n 0) ≡ (same (take (length b) a) (take (length a) b) && zeros (drop (length b) a) && zeros (drop (length a) b))
+unfolding same every
+same-filled m n [] [] e =
+    let f : m ≡ n = omega arith in
+    rw f (same-refl (replicate n 0))
+same-filled m n (x ∷ xs) [] e =
+    let f : n ≡ length (x ∷ xs) + m = omega arith in
+    rw f (zeros-filled m (x ∷ xs) ∙ sym (and-true (zeros (x ∷ xs))))
+same-filled m n [] (y ∷ ys) e =
+    let f : m ≡ length (y ∷ ys) + n = omega arith in
+    rw f (same-sym (replicate (length (y ∷ ys) + n) 0) ((y ∷ ys) ++ replicate n 0) ∙ zeros-filled n (y ∷ ys))
+same-filled m n (x ∷ xs) (y ∷ ys) e =
+    let both = same (take (length ys) xs) (take (length xs) ys) in
+    let behind = zeros (drop (length ys) xs) in
+    ap (λ (t : Bool). eqb x y && t) (same-filled m n xs ys (omega arith))
+    ∙ sym (ap (λ (t : Bool). t && zeros (drop (length xs) ys)) (and-assoc (eqb x y) both behind) ∙ and-assoc (eqb x y) (both && behind) (zeros (drop (length xs) ys)))
 
 -- ---- part
 

@@ -25,7 +25,7 @@ use Rattle.open.specs.Open.{notBound, legOf, bindTo}
 use Rattle.open.specs.declared.Bound.{Bound}
 use Rattle.centre.specs.Centre.{centre, onFront}
 use Rattle.wellformed.proofs.Cases.{found-cases, read-cases}
-use Rattle.properties.proofs.Named.{named-used}
+use Rattle.properties.proofs.Named.{found-used}
 use Rattle.properties.proofs.OpenCases.{open-cases}
 use Rattle.properties.proofs.MoveCases.{opens-cases, closes-cases}
 use Rattle.properties.proofs.OnCases.{on-cases}
@@ -68,7 +68,7 @@ module _ (book : List ℕ) where
       found-cases Q (namedPlace (octetsOf (b .system) body) (octetsOf (b .kind) body) book)
       (λ a. if passwordIs (octetsOf (b .password) body) (bookRecord a book) then record { status = 0; entry = legOf receiver a } else notBound invalidPassword)
       (notBound invalidPassword)
-      (λ a e. let n = named-used _ _ book a e in
+      (λ a e. let n = found-used _ _ book a e in
       if-cases Q (passwordIs (octetsOf (b .password) body) (bookRecord a book)) _ _ (λ _. leg-leads receiver a (record { below = n .0; used = n .1 })) (λ _. refused))
       (λ _. refused)
 

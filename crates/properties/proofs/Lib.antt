@@ -31,3 +31,4 @@ pub mod MarksKept
 pub mod Outstanding
 pub mod Written
 pub mod NoneLost
+pub mod Spaces

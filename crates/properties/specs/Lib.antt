@@ -4,3 +4,4 @@ pub mod Property2
 pub mod Property3
 pub mod Healthy
 pub mod NoneLost
+pub mod Spaces

@@ -2,14 +2,14 @@
 use mathlib.Core.Path.{_≡_, refl, sym}
 use mathlib.Core.Bool.{Bool, true, false, not, _&&_}
 use mathlib.Core.List.{List, [], _∷_}
-use Prim.Native.Nat.{ℕ, zero, suc, _≤_, _<_}
+use Prim.Native.Nat.{ℕ, _≤_, _<_}
 use native.Mathlib.Omega.{arith}
-use lib.ListN.{length, take, drop, getD}
+use lib.ListN.{length, drop, getD}
 use lib.Dec.{eqb}
 use borrow.Author.Tests.{eqb-true}
 use Rattle.octets.specs.Choice.{if_then_else_}
 use Rattle.octets.specs.Stretch.{every, isZero, zeros, part}
-use Rattle.octets.proofs.StretchLaws.{and-left, and-right, and-both, and-false, or-false, every-at}
+use Rattle.octets.proofs.StretchLaws.{and-left, and-false, or-false, every-at, every-drop, every-take}
 use Rattle.forms.specs.Class.{lead}
 use Rattle.forms.proofs.ClassLaws.{within-high}
 use Rattle.forms.specs.declared.text.Form.the-variants.{Digits}
@@ -54,19 +54,6 @@ record-state last r h = by (zeros r) refl
         within-high 1 5 (stateOf r) (and-left _ _ (and-left _ _ (and-left _ _ (and-left _ _ (and-left _ _ m)))))
 
 -- ---- zeros in zeros
-
-every-drop : (p : ℕ → Bool) (n : ℕ) (xs : List ℕ) → every p xs ≡ true → every p (drop n xs) ≡ true
-unfolding every
-every-drop p zero xs h = h
-every-drop p (suc n) [] h = h
-every-drop p (suc n) (x ∷ xs) h = every-drop p n xs (and-right (p x) (every p xs) h)
-
-every-take : (p : ℕ → Bool) (n : ℕ) (xs : List ℕ) → every p xs ≡ true → every p (take n xs) ≡ true
-unfolding every
-every-take p zero xs h = refl
-every-take p (suc n) [] h = refl
-every-take p (suc n) (x ∷ xs) h =
-    and-both (p x) (every p (take n xs)) (and-left (p x) (every p xs) h) (every-take p n xs (and-right (p x) (every p xs) h))
 
 pub zeros-part : (at n : ℕ) (xs : List ℕ) → zeros xs ≡ true → zeros (part at n xs) ≡ true
 zeros-part at n xs h = every-take isZero n (drop at xs) (every-drop isZero at xs h)

@@ -1,12 +1,15 @@
--- The account book's record of 64 octets (document 01, "The account book and the table").
+-- The account book's record of 64 octets (document 01, "The account book and the table"), and how names and addresses compare (document 02, 2).
 use Prim.Native.Nat.{ℕ, _-_, _*_}
 use mathlib.Core.Bool.{Bool, not, _&&_}
 use mathlib.Core.List.{List}
-use lib.ListN.{length, getD}
+use lib.ListN.{length, getD, take, drop}
 use lib.Dec.{eqb}
-use Rattle.octets.specs.Stretch.{part, same, zeros}
+use Rattle.octets.specs.Stretch.{part, padded, same, zeros}
 use Rattle.octets.specs.Lent.{Lent, lentPart}
+use Rattle.forms.specs.Class.{inClass}
+use Rattle.forms.specs.Text.{givenAll, afterSpaces}
 use Rattle.forms.specs.Field.{addressSize, textOf, isField}
+use Rattle.forms.specs.declared.class.Class.the-variants.{Space}
 use Rattle.forms.specs.declared.text.Form.{Form}
 use Rattle.forms.specs.declared.text.Form.the-variants.{Ascii, Digits}
 use Rattle.records.specs.Layout.{accountCount}
@@ -52,16 +55,34 @@ bookOk b =
 unfoldable pub usedOk : List ℕ → Bool
 usedOk b = not (zeros b) && bookOk b
 
--- names and addresses compare octet for octet, spaces included
-unfoldable pub sameName : List ℕ → List ℕ → Bool
-sameName a b = same a b
+-- ---- leading spaces don't count when system_id, system_type and addresses are compared
 
+unfoldable pub sameName : List ℕ → List ℕ → Bool
+sameName a b = same (afterSpaces a) (afterSpaces b)
+
+-- one space or more, and nothing else
+abbrev pub spacesOnly : List ℕ → Bool
+spacesOnly t = givenAll (inClass Space) t
+
+-- a system_id of spaces only, sent or in the book, matches nothing
+unfoldable pub sameSystemId : List ℕ → List ℕ → Bool
+sameSystemId a b = not (spacesOnly a) && not (spacesOnly b) && sameName a b
+
+-- a field as it would be kept had its text been sent without the leading spaces
+abbrev pub unspaced : List ℕ → List ℕ
+unspaced field = padded (length field) (afterSpaces field)
+
+-- equal in all three: ton, npi, and the text, of which leading spaces don't count
 unfoldable pub sameAddress : List ℕ → List ℕ → Bool
-sameAddress a b = same a b
+sameAddress a b = same (take 2 a) (take 2 b) && same (unspaced (drop 2 a)) (unspaced (drop 2 b))
+
+-- ---- which record a bind names, and whether its password is the record's
 
 -- a used, well-formed record with equal system_id and system_type
 unfoldable pub named : List ℕ → List ℕ → List ℕ → Bool
-named system kind b = usedOk b && sameName (textOf (systemOf b)) system && sameName (textOf (systemTypeOf b)) kind
+named system kind b = usedOk b && sameSystemId (textOf (systemOf b)) system && sameName (textOf (systemTypeOf b)) kind
+
+-- passwords compare octet for octet, spaces included
 
 unfoldable pub passwordIs : List ℕ → List ℕ → Bool
 passwordIs password b = same (textOf (passwordOf b)) password

@@ -1,13 +1,18 @@
-// The account book's record.
+// The account book's record, and how names and addresses compare: leading spaces don't count.
 use crate::layout;
+use forms::class;
+use forms::class::Class;
 use forms::field;
+use forms::text;
 use forms::text::Form;
+use octets::stretch;
 ghost use mathlib.Core.Path.{_≡_};
 ghost use Prim.Native.Nat.{_≤_, _<_};
 ghost use lib.ListN.{length};
+ghost use Rattle.octets.specs.Stretch.{same};
 ghost use Rattle.octets.specs.Lent.{lent};
 ghost use Rattle.records.specs.Layout.{accountCount};
-ghost use Rattle.records.specs.Book.{bookRecordSize, bookRecordPart, bookSize, endedText, usedOk, sameName, sameAddress, named, passwordIs};
+ghost use Rattle.records.specs.Book.{bookRecordSize, bookRecordPart, bookSize, endedText, usedOk, sameName, sameSystemId, unspaced, sameAddress, named, passwordIs};
 
 // Where the fields of a book record start. Each ends where the next one starts.
 const SYSTEM_ID: usize = 0;
@@ -57,19 +62,45 @@ pub fn is_used_ok(b: &[u8]) -> bool
         & is_ended_text(&b[PASSWORD..SYSTEM_TYPE], Form::Ascii)
         & is_ended_text(&b[SYSTEM_TYPE..CALLBACK], Form::Ascii)
         & is_ended_text(&b[CALLBACK_ADDRESS..SPARE], Form::Digits)
-        & octets::stretch::all_zero(&b[SPARE..RECORD_SIZE])
+        & stretch::all_zero(&b[SPARE..RECORD_SIZE])
 }
 
 fn is_same_name(a: &[u8], b: &[u8]) -> bool
     ensures { λ r. ⌜ r ≡ sameName (now (a .entry)) (now (b .entry)) ⌝ }
 {
-    octets::stretch::is_same(a, b)
+    stretch::is_same(text::after_spaces(a), text::after_spaces(b))
 }
 
+// A system_id of spaces only matches nothing.
+fn is_same_system_id(a: &[u8], b: &[u8]) -> bool
+    ensures { λ r. ⌜ r ≡ sameSystemId (now (a .entry)) (now (b .entry)) ⌝ }
+{
+    !text::is_given(a, Class::Space) & !text::is_given(b, Class::Space) & is_same_name(a, b)
+}
+
+// Equal as far as both go, and zeros behind that: so nothing has to be copied to the front of its field.
+fn is_same_unspaced(a: &[u8], b: &[u8]) -> bool
+    ensures { λ r. ⌜ r ≡ same (unspaced (now (a .entry))) (unspaced (now (b .entry))) ⌝ }
+{
+    let x = text::after_spaces(a);
+    let y = text::after_spaces(b);
+    (a.len() == b.len())
+        & stretch::is_same(stretch::first(x, y.len()), stretch::first(y, x.len()))
+        & stretch::all_zero(stretch::from(x, y.len()))
+        & stretch::all_zero(stretch::from(y, x.len()))
+}
+
+// Few addresses have leading spaces: the others compare as they stand.
 pub fn is_same_address(a: &[u8], b: &[u8]) -> bool
     ensures { λ r. ⌜ r ≡ sameAddress (now (a .entry)) (now (b .entry)) ⌝ }
 {
-    octets::stretch::is_same(a, b)
+    let x = stretch::from(a, 2);
+    let y = stretch::from(b, 2);
+    if (class::lead_of(x, Class::Space) == 0) & (class::lead_of(y, Class::Space) == 0) {
+        stretch::is_same(a, b)
+    } else {
+        stretch::is_same(stretch::first(a, 2), stretch::first(b, 2)) & is_same_unspaced(x, y)
+    }
 }
 
 // Whether a bind's system_id and system_type name this record.
@@ -78,7 +109,7 @@ pub fn is_named(b: &[u8], system: &[u8], kind: &[u8]) -> bool
     ensures { λ r. ⌜ r ≡ named (now (system .entry)) (now (kind .entry)) (now (b .entry)) ⌝ }
 {
     // The names first: they tell most records apart, and the test of a whole record takes longer.
-    let named = is_same_name(field::text_of(&b[SYSTEM_ID..PASSWORD]), system)
+    let named = is_same_system_id(field::text_of(&b[SYSTEM_ID..PASSWORD]), system)
         & is_same_name(field::text_of(&b[SYSTEM_TYPE..CALLBACK]), kind);
     if named { is_used_ok(b) } else { false }
 }
@@ -87,5 +118,5 @@ pub fn is_password(b: &[u8], password: &[u8]) -> bool
     requires { ⌜ length (now b) ≡ bookRecordSize ⌝ }
     ensures { λ r. ⌜ r ≡ passwordIs (now (password .entry)) (now (b .entry)) ⌝ }
 {
-    octets::stretch::is_same(field::text_of(&b[PASSWORD..SYSTEM_TYPE]), password)
+    stretch::is_same(field::text_of(&b[PASSWORD..SYSTEM_TYPE]), password)
 }

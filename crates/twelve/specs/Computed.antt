@@ -19,7 +19,7 @@ use Rattle.requests.specs.Cancel.{cancelOf}
 use Rattle.requests.specs.Replace.{replaceOf}
 use Rattle.requests.specs.Plain.{plainOf}
 use Rattle.store.specs.Account.{apart, placesOk, accountOk}
-use Rattle.records.specs.Book.{bookOk, usedOk, sameName, sameAddress, named, passwordIs}
+use Rattle.records.specs.Book.{bookOk, usedOk, sameName, sameSystemId, sameAddress, named, passwordIs}
 use Rattle.changes.specs.Change.{newRecord, finished, unmarked, retexted, corrected}
 use Rattle.store.specs.Places as Places
 use Rattle.store.specs.Places.{keep, lowest, onPlaces}
@@ -42,5 +42,5 @@ use Rattle.centre.specs.Operations.{noted, pickedFrom}
 use Rattle.centre.specs.Centre.{octetsEarly, deliveryEarly, outcomeEarly, pickEarly, onOctets, onDelivery, act}
 
 unfoldable pub computed : Unit {0}
-unfolding if_then_else_ onto octets4 hexDigit hex8 rows patch same every lead textOf isField afterSpaces formed nibble messageId twoDigits isTime sentTime storedTime notBoth endOf octetAt textAt addressAt idAt timeAt spanAt shortAt frameOf commandOf headerOf header reply idText queryBody over bindOf submitOf queryOf cancelOf replaceOf plainOf apart placesOk accountOk bookOk usedOk sameName sameAddress named passwordIs newRecord finished unmarked retexted corrected Places.over keep lowest onPlaces textOk fieldsOk endOk markOk messageOk recordOk orElse sourceFor known added stored submitted lookedUp queried cancellable cancelledOne deletedIf cancelledAll cancelled replacedIn replaced reported granting opened closed receiptText sentAddress deliverBody sent offered acknowledged settled fresh step bindTo openBind onOpen submitTurn queryTurn cancelTurn replaceTurn unbindTurn replying settledBy onBound noted pickedFrom octetsEarly deliveryEarly outcomeEarly pickEarly onOctets onDelivery act
+unfolding if_then_else_ onto octets4 hexDigit hex8 rows patch same every lead textOf isField afterSpaces formed nibble messageId twoDigits isTime sentTime storedTime notBoth endOf octetAt textAt addressAt idAt timeAt spanAt shortAt frameOf commandOf headerOf header reply idText queryBody over bindOf submitOf queryOf cancelOf replaceOf plainOf apart placesOk accountOk bookOk usedOk sameName sameSystemId sameAddress named passwordIs newRecord finished unmarked retexted corrected Places.over keep lowest onPlaces textOk fieldsOk endOk markOk messageOk recordOk orElse sourceFor known added stored submitted lookedUp queried cancellable cancelledOne deletedIf cancelledAll cancelled replacedIn replaced reported granting opened closed receiptText sentAddress deliverBody sent offered acknowledged settled fresh step bindTo openBind onOpen submitTurn queryTurn cancelTurn replaceTurn unbindTurn replying settledBy onBound noted pickedFrom octetsEarly deliveryEarly outcomeEarly pickEarly onOctets onDelivery act
 computed = tt

@@ -4,3 +4,4 @@ pub mod Examples
 pub mod Stored
 pub mod Rules
 pub mod Receipts
+pub mod Spaces

@@ -62,12 +62,22 @@ pub fn scenarios() -> Vec<Scenario> {
         scenario("submit_sm, empty place", bound(), each(submit)),
         scenario("submit_sm, finished place", finished(), each(submit)),
         scenario("submit_sm, replacing", submitted(), each(submit_again)),
+        scenario(
+            "submit_sm, replacing, spaces",
+            submitted(),
+            each(submit_again_with_spaces),
+        ),
         scenario("submit_sm, table full", submitted(), each(submit)),
         scenario("submit_sm, bad field", submitted(), each(submit_badly)),
         scenario("query_sm, waiting", submitted(), each(query)),
         scenario("query_sm, finished", finished(), each(query)),
         scenario("cancel_sm, by id", submitted(), each(cancel_one)),
         scenario("cancel_sm, all between two", submitted(), each(cancel_all)),
+        scenario(
+            "cancel_sm, all, spaces",
+            submitted(),
+            each(cancel_all_with_spaces),
+        ),
         scenario("replace_sm", submitted(), each(replace)),
         scenario("unknown command", submitted(), each(unknown)),
         scenario("response", submitted(), each(response)),
@@ -204,6 +214,13 @@ fn destination(place: usize) -> Address {
     Address::new(1, 1, format!("4477009001{place:02}").as_bytes())
 }
 
+/// The same with as many spaces in front as there is room for.
+fn spaced_destination(place: usize) -> Address {
+    let Address { ton, npi, text } = destination(place);
+    let spaces = &[b' '; 20][text.len()..];
+    Address::new(ton, npi, &[spaces, &text].concat())
+}
+
 fn id(place: usize) -> Vec<u8> {
     format!("{:08X}", place + 1).into_bytes()
 }
@@ -236,8 +253,19 @@ fn submit_registered(account: usize, place: usize) -> Step {
 }
 
 fn submit_again(account: usize, place: usize) -> Step {
-    let mut submit = submission(place);
-    submit.replace_if_present = 1;
+    submit_again_to(destination(place), account, place)
+}
+
+fn submit_again_with_spaces(account: usize, place: usize) -> Step {
+    submit_again_to(spaced_destination(place), account, place)
+}
+
+fn submit_again_to(destination: Address, account: usize, place: usize) -> Step {
+    let submit = Submit {
+        destination,
+        replace_if_present: 1,
+        ..submission(place)
+    };
     take(account, Request::Submit(submit))
 }
 
@@ -265,8 +293,16 @@ fn cancel_one(account: usize, place: usize) -> Step {
 }
 
 fn cancel_all(account: usize, place: usize) -> Step {
+    cancel_all_to(destination(place), account)
+}
+
+fn cancel_all_with_spaces(account: usize, place: usize) -> Step {
+    cancel_all_to(spaced_destination(place), account)
+}
+
+fn cancel_all_to(destination: Address, account: usize) -> Step {
     let cancel = Cancel {
-        destination: destination(place),
+        destination,
         ..Cancel::default()
     };
     take(account, Request::Cancel(cancel))
@@ -358,6 +394,29 @@ fn pick(account: usize, _place: usize) -> Step {
 mod tests {
     use super::*;
     use crate::centre::Message;
+
+    /// Every reply of a scenario, and the table that it leaves.
+    fn played(name: &str) -> (Vec<Vec<u8>>, Vec<u8>) {
+        let named = |scenario: &Scenario| scenario.name == name;
+        let mut scenario = scenarios().into_iter().find(named).unwrap();
+        let world = &mut scenario.world;
+        let reply = |step: &Step| {
+            let written = world.play(&Reference::sound(), step).written;
+            world.space()[..written].to_vec()
+        };
+        let replies = scenario.steps.iter().map(reply).collect();
+        (replies, world.table().to_vec())
+    }
+
+    #[test]
+    fn spaces_change_what_is_sent_and_nothing_else() {
+        for (plain, spaced) in [
+            ("submit_sm, replacing", "submit_sm, replacing, spaces"),
+            ("cancel_sm, all between two", "cancel_sm, all, spaces"),
+        ] {
+            assert_eq!(played(plain), played(spaced));
+        }
+    }
 
     #[test]
     fn each_receipt_is_written_and_each_answer_clears_a_mark() {

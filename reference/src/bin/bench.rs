@@ -17,6 +17,7 @@ noise  from the quickest tenth of the rounds to the slowest, as a part of the mi
 MB/s   millions of octets taken in a second
 stack  octets that the deepest call uses
 ratio  of the times, each round with the one beside it
+With spaces: in front of the destination that is sent, eight; the stored one has none.
 A pick is two calls, one for the number and one for the place. The scenarios behind it are on
 receivers of accounts that owe sixteen receipts; of a receipt and its answer each is a call.
 ";

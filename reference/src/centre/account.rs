@@ -5,9 +5,10 @@ use super::fault::Fault;
 use super::message::{self, layout, Message, Place};
 use super::party::Party;
 use super::request::{Cancel, Query, Replace, ShortMessage, Submit};
+use super::same::Same;
 use super::state::ACCOUNTS;
 use super::status::Status;
-use super::text::STAMP;
+use super::text::{without_leading_spaces, STAMP};
 use std::cmp::Reverse;
 
 /// Whether an account may be worked on at all.
@@ -102,11 +103,14 @@ impl<'a> Account<'a> {
     fn store(&mut self, submit: &Submit<'_>) -> Result<u32, Status> {
         let id = self.last().checked_add(1).ok_or(Status::System)?;
         let at = self.place_for_another().ok_or(Status::QueueFull)?;
-        let source = if submit.source.is_empty() {
+        let mut source = if submit.source.is_empty() {
             self.callback
         } else {
             submit.source
         };
+        if self.errs(Fault::StoredUnspaced) {
+            source.address = without_leading_spaces(source.address);
+        }
         self.places[at] = message::waiting(id, source, submit);
         self.lasts[self.number] = id;
         Ok(id)
@@ -138,8 +142,7 @@ impl<'a> Account<'a> {
     fn cancel_one(&mut self, cancel: &Cancel<'_>) -> Result<(), Status> {
         let at = self.find(cancel.id)?;
         let message = Message(&self.places[at]);
-        let elsewhere =
-            !cancel.destination.is_empty() && message.destination() != cancel.destination;
+        let elsewhere = !cancel.destination.is_empty() && !self.is_to(at, cancel.destination);
         if !message.is_waiting() || !self.is_from(at, cancel.source) || elsewhere {
             return Err(Status::CannotCancel);
         }
@@ -195,15 +198,21 @@ impl<'a> Account<'a> {
     fn is_from(&self, at: usize, source: Party<'_>) -> bool {
         let stored = Message(&self.places[at]).source();
         if source.is_empty() {
-            self.errs(Fault::EmptySourceMatchesAny) || stored == self.callback
+            self.errs(Fault::EmptySourceMatchesAny) || self.same().party(self.callback, stored)
         } else {
-            stored == source
+            self.same().party(source, stored)
         }
     }
 
+    fn is_to(&self, at: usize, destination: Party<'_>) -> bool {
+        let stored = Message(&self.places[at]).destination();
+        self.same().party(destination, stored)
+    }
+
     fn is_waiting_between(&self, at: usize, source: Party<'_>, destination: Party<'_>) -> bool {
-        let message = Message(&self.places[at]);
-        message.is_waiting() && message.destination() == destination && self.is_from(at, source)
+        Message(&self.places[at]).is_waiting()
+            && self.is_to(at, destination)
+            && self.is_from(at, source)
     }
 
     fn lowest_waiting_between(&self, source: Party<'_>, destination: Party<'_>) -> Option<usize> {
@@ -241,6 +250,10 @@ impl<'a> Account<'a> {
         } else {
             self.lasts[self.number]
         }
+    }
+
+    fn same(&self) -> Same {
+        Same::with(self.fault)
     }
 
     fn errs(&self, fault: Fault) -> bool {

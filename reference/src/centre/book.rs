@@ -1,6 +1,7 @@
 //! One record of the account book.
 
 use super::party::Party;
+use super::same::Same;
 use super::text::{is_ascii, is_digits, is_zero, stored, up_to_zero};
 use std::ops::Range;
 
@@ -56,6 +57,13 @@ impl<'a> BookRecord<'a> {
     /// A record that a session can be bound to.
     pub fn is_usable(self) -> bool {
         self.is_used() && self.is_well_formed()
+    }
+
+    /// Whether a bind with these names is looking for this record.
+    pub fn is_named(self, same: Same, system_id: &[u8], system_type: &[u8]) -> bool {
+        self.is_usable()
+            && same.system_id(system_id, self.system_id())
+            && same.system_type(system_type, self.system_type())
     }
 }
 
@@ -135,6 +143,26 @@ mod tests {
     fn an_empty_system_id_is_well_formed() {
         let mut octets = record();
         octets[..38].fill(0);
+        assert!(BookRecord(&octets).is_usable());
+    }
+
+    #[test]
+    fn only_a_usable_record_has_names() {
+        let named = |octets: &[u8; BOOK_RECORD], system_id, system_type| {
+            BookRecord(octets).is_named(Same::sound(), system_id, system_type)
+        };
+        let mut octets = record();
+        assert!(named(&octets, b" paging", b"VMA") && named(&octets, b"paging", b"  VMA"));
+        assert!(!named(&octets, b"VMA", b"VMA") && !named(&octets, b"paging", b"paging"));
+        octets[63] = 1;
+        assert!(!named(&octets, b"paging", b"VMA"), "ill formed");
+        assert!(!named(&[0; BOOK_RECORD], b"", b""), "unused");
+    }
+
+    #[test]
+    fn a_system_id_of_spaces_only_is_well_formed() {
+        let mut octets = record();
+        octets[..6].fill(b' ');
         assert!(BookRecord(&octets).is_usable());
     }
 }

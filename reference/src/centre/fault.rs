@@ -1,5 +1,5 @@
 //! Faults that can be planted: one for each error that a hurried builder makes, as the outline
-//! lists them, and one for each that receipts make easy.
+//! lists them, and one for each that receipts or spaces in front of addresses make easy.
 
 #[derive(Clone, Copy, Debug, PartialEq, Eq)]
 pub enum Fault {
@@ -33,10 +33,26 @@ pub enum Fault {
     ReceiptNotExchanged,
     /// The same id outstanding on two sessions of an account.
     IdGivenTwice,
+    /// Leading spaces that still count.
+    SpacesCount,
+    /// Leading spaces taken off what is sent, and not off what is kept.
+    KeptSpacesCount,
+    /// Spaces behind a name taken off too, and tabs.
+    Trimmed,
+    /// Addresses compared without their ton.
+    TonIgnored,
+    /// A system_id of spaces only that matches another, or an empty one.
+    SpacesMatch,
+    /// An empty system_id taken for one of spaces only.
+    EmptyMatchesNothing,
+    /// A password compared without its leading spaces.
+    PasswordUnspaced,
+    /// A source stored without its leading spaces.
+    StoredUnspaced,
 }
 
 impl Fault {
-    pub const ALL: [Fault; 15] = [
+    pub const ALL: [Fault; 23] = [
         Fault::OneCounter,
         Fault::NeighbourRaisesNine,
         Fault::EmptySourceMatchesAny,
@@ -52,6 +68,14 @@ impl Fault {
         Fault::CloseKeepsReceipt,
         Fault::ReceiptNotExchanged,
         Fault::IdGivenTwice,
+        Fault::SpacesCount,
+        Fault::KeptSpacesCount,
+        Fault::Trimmed,
+        Fault::TonIgnored,
+        Fault::SpacesMatch,
+        Fault::EmptyMatchesNothing,
+        Fault::PasswordUnspaced,
+        Fault::StoredUnspaced,
     ];
 
     /// The name by which the fault is chosen on a command line.
@@ -72,6 +96,14 @@ impl Fault {
             Fault::CloseKeepsReceipt => "close-keeps-receipt",
             Fault::ReceiptNotExchanged => "receipt-not-exchanged",
             Fault::IdGivenTwice => "id-given-twice",
+            Fault::SpacesCount => "spaces-count",
+            Fault::KeptSpacesCount => "kept-spaces-count",
+            Fault::Trimmed => "trimmed",
+            Fault::TonIgnored => "ton-ignored",
+            Fault::SpacesMatch => "spaces-match",
+            Fault::EmptyMatchesNothing => "empty-matches-nothing",
+            Fault::PasswordUnspaced => "password-unspaced",
+            Fault::StoredUnspaced => "stored-unspaced",
         }
     }
 

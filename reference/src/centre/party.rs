@@ -1,7 +1,7 @@
 //! A source or a destination.
 
-/// Two parties are the same when all three parts are, octet for octet.
-#[derive(Clone, Copy, Debug, PartialEq, Eq)]
+/// Two of them are compared by `Same`, not octet for octet.
+#[derive(Clone, Copy, Debug)]
 pub struct Party<'a> {
     pub ton: u8,
     pub npi: u8,

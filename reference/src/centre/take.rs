@@ -8,6 +8,7 @@ use super::message::{clear_mark, Place};
 use super::refusal::Refusal;
 use super::reply::{Body, Reply, LONGEST_REPLY};
 use super::request::{read_nothing, Bind, Cancel, Query, Replace, Submit};
+use super::same::Same;
 use super::state::{Entry, State, ACCOUNTS};
 use super::status::Status;
 use super::text::{is_time, STAMP};
@@ -230,15 +231,12 @@ impl Desk<'_> {
     /// Only the lowest record with that name and type counts, even if its password is wrong
     /// and a higher one's would be right.
     fn account_to_bind(&self, bind: &Bind<'_>) -> Option<u8> {
-        let (account, record) =
-            (0u8..)
-                .zip(self.records.book.iter().map(BookRecord))
-                .find(|(_, record)| {
-                    record.is_usable()
-                        && record.system_id() == bind.system_id
-                        && record.system_type() == bind.system_type
-                })?;
-        (record.password() == bind.password).then_some(account)
+        let same = Same::with(self.fault);
+        let (account, record) = (0u8..)
+            .zip(self.records.book.iter().map(BookRecord))
+            .find(|(_, record)| record.is_named(same, bind.system_id, bind.system_type))?;
+        same.password(bind.password, record.password())
+            .then_some(account)
     }
 
     fn unbind(&mut self, body: &[u8]) -> Result<(), Status> {

@@ -64,7 +64,7 @@ pub fn is_zero(octets: &[u8]) -> bool {
     octets.iter().all(|&octet| octet == 0)
 }
 
-fn without_leading_spaces(text: &[u8]) -> &[u8] {
+pub fn without_leading_spaces(text: &[u8]) -> &[u8] {
     let spaces = text.iter().take_while(|&&octet| octet == b' ').count();
     &text[spaces..]
 }

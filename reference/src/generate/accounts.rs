@@ -1,29 +1,29 @@
 //! Account books.
 
-use super::Manner;
+use super::{texts, Manner};
 use crate::centre::{ACCOUNTS, BOOK, BOOK_RECORD};
 use crate::random::Random;
 
-/// Names of which some differ only in a space or in case.
+/// Names of which some differ only in a space behind them, in a tab or in case.
 const NAMES: [&[u8]; 8] = [
     b"paging",
-    b" paging",
+    b"paging ",
     b"Paging",
     b"voicemail",
-    b"bureau",
+    b"\tpaging",
     b"fifteen letters",
     b"x",
     b"",
 ];
 
-const TYPES: [&[u8]; 4] = [b"VMA", b"", b" VMA", b"twelve chars"];
+const TYPES: [&[u8]; 4] = [b"VMA", b"", b"VMA ", b"twelve chars"];
 
-const PASSWORDS: [&[u8]; 4] = [b"secret", b"", b"12345678", b"Secret"];
+const PASSWORDS: [&[u8]; 6] = [b"secret", b"", b"12345678", b"Secret", b" secret", b" "];
 
 const CALLBACKS: [&[u8]; 4] = [b"447700900000", b"1", b"01234567890123456789", b"5"];
 
-/// A book of eight accounts. Unless callers are well behaved, some share a name, some are
-/// unused and some are ill formed.
+/// A book of eight accounts. Unless callers are well behaved, some share a name, some have one of
+/// spaces only, some are unused and some are ill formed.
 pub fn book(random: &mut Random, manner: Manner) -> Vec<u8> {
     let mut book = vec![0; BOOK];
     let shift = random.below(NAMES.len());
@@ -38,6 +38,7 @@ pub fn book(random: &mut Random, manner: Manner) -> Vec<u8> {
             0 => record.fill(0),
             1 => hurt(random, record),
             2..4 => fill(random, record, NAMES[shift]),
+            4 => fill(random, record, b" "),
             _ => {}
         }
     }
@@ -46,10 +47,13 @@ pub fn book(random: &mut Random, manner: Manner) -> Vec<u8> {
 
 /// Writes a well-formed record.
 fn fill(random: &mut Random, record: &mut [u8], name: &[u8]) {
+    let system_id = texts::respaced_if_any(random, name, texts::SYSTEM_ID);
+    let system_type = random.choose(&TYPES);
+    let system_type = texts::respaced(random, system_type, texts::SYSTEM_TYPE);
     record.fill(0);
-    put(record, 0, name);
+    put(record, 0, &system_id);
     put(record, 16, random.choose(&PASSWORDS));
-    put(record, 25, random.choose(&TYPES));
+    put(record, 25, &system_type);
     record[38] = random.below(4) as u8;
     record[39] = random.below(3) as u8;
     put(record, 40, random.choose(&CALLBACKS));

@@ -75,10 +75,11 @@ fn put_parties(random: &mut Random, place: &mut Place, callback: &[u8]) {
             2 => b"01234567890123456789",
             _ => b"447700900123",
         };
+        let address = texts::respaced(random, address, texts::ADDRESS);
         let field = &mut place[field];
         field[0] = random.below(3) as u8;
         field[1] = random.below(3) as u8;
-        field[2..2 + address.len()].copy_from_slice(address);
+        field[2..2 + address.len()].copy_from_slice(&address);
     }
 }
 

@@ -87,18 +87,6 @@ impl Generator {
         (!choices.is_empty()).then(|| self.random.choose(choices))
     }
 
-    /// Whether the account's own names lead to it.
-    fn can_be_bound(&self, account: usize) -> bool {
-        let own = self.book_record(account);
-        let alike = |other: &usize| {
-            let other = self.book_record(*other);
-            other.is_usable()
-                && other.system_id() == own.system_id()
-                && other.system_type() == own.system_type()
-        };
-        (0..ACCOUNTS).find(alike) == Some(account)
-    }
-
     fn has_mark(&self, account: usize) -> bool {
         let mut messages = self.places(account).iter().map(Message);
         messages.any(|message| message.is_marked())

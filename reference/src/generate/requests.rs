@@ -1,16 +1,18 @@
 //! Requests that are meant to succeed, most of the time.
 
 use super::{texts, Generator, Manner};
-use crate::centre::{BookRecord, Message, Party, Place, Report, BOOK_RECORD};
+use crate::centre::{BookRecord, Message, Party, Place, Report, Same, ACCOUNTS, BOOK_RECORD};
 use crate::compose::{Address, Bind, Cancel, Query, Replace, Role, Submit, Text};
 use crate::random::Random;
 
-/// Few addresses, so that requests meet the messages of earlier ones.
-const SOURCES: [(u8, u8, &[u8]); 5] = [
+/// Few addresses, so that requests meet the messages of earlier ones. Half of the time they are
+/// written with other spaces in front.
+const SOURCES: [(u8, u8, &[u8]); 6] = [
     (1, 1, b"447700900001"),
-    (1, 1, b" 447700900001"),
+    (1, 2, b"447700900001"),
     (2, 1, b"447700900001"),
     (0, 0, b"5"),
+    (0, 0, b"55"),
     (1, 1, b"01234567890123456789"),
 ];
 
@@ -18,7 +20,7 @@ const DESTINATIONS: [(u8, u8, &[u8]); 5] = [
     (1, 1, b"447700900123"),
     (1, 1, b"447700900123"),
     (1, 0, b"447700900123"),
-    (0, 0, b"   447700900001"),
+    (0, 0, b"447700900001"),
     (1, 1, b"99999999999999999999"),
 ];
 
@@ -28,7 +30,17 @@ impl Generator {
         BookRecord(&records[account])
     }
 
-    /// A bind to the account, with a wrong password now and then.
+    /// Whether the account's own names lead to it.
+    pub(super) fn can_be_bound(&self, account: usize) -> bool {
+        let own = self.book_record(account);
+        let found = |other: &usize| {
+            let other = self.book_record(*other);
+            other.is_named(Same::sound(), own.system_id(), own.system_type())
+        };
+        (0..ACCOUNTS).find(found) == Some(account)
+    }
+
+    /// A bind to the account, with a wrong name or password now and then.
     pub(super) fn bind(&mut self, account: usize, role: Role) -> Bind {
         let record = self.book_record(account);
         let mut bind = Bind {
@@ -39,21 +51,16 @@ impl Generator {
             interface_version: 0x33,
             range: Address::default(),
         };
+        let random = &mut self.random;
+        bind.system_id = texts::respaced_if_any(random, &bind.system_id, texts::SYSTEM_ID);
+        bind.system_type = texts::respaced(random, &bind.system_type, texts::SYSTEM_TYPE);
         if self.random.percent(15) {
             bind.interface_version = self.random.octet();
             let range = self.random.choose(&[&b"^44770090"[..], &[b'4'; 40]]);
             bind.range = Address::new(1, 1, range);
         }
         if self.random.percent(8) {
-            let field = match self.random.below(3) {
-                0 => &mut bind.system_id,
-                1 => &mut bind.password,
-                _ => &mut bind.system_type,
-            };
-            match field.pop() {
-                Some(_) => {}
-                None => field.push(b'x'),
-            }
+            mislead(&mut self.random, &mut bind);
         }
         bind
     }
@@ -109,7 +116,7 @@ impl Generator {
         let place = self.a_waiting_place(account);
         let destination = match self.random.below(10) {
             0..5 => Address::default(),
-            5..9 => destination_of(place).unwrap_or_default(),
+            5..9 => destination_of(&mut self.random, place).unwrap_or_default(),
             _ => a_destination(&mut self.random),
         };
         Cancel {
@@ -125,7 +132,8 @@ impl Generator {
         let destination = match self.random.below(10) {
             0 => Address::default(),
             1 => a_destination(&mut self.random),
-            _ => destination_of(place).unwrap_or_else(|| a_destination(&mut self.random)),
+            _ => destination_of(&mut self.random, place)
+                .unwrap_or_else(|| a_destination(&mut self.random)),
         };
         Cancel {
             service_type: a_service_type(&mut self.random),
@@ -208,14 +216,15 @@ impl Generator {
 
     /// The source that the message has, written in one of the ways that match it.
     fn source_of(&mut self, account: usize, place: Option<Place>) -> Address {
-        let callback = address_of(self.book_record(account).callback());
         match place {
             Some(place) if !self.random.percent(8) => {
-                let source = address_of(Message(&place).source());
-                if source == callback && self.random.percent(70) {
+                let source = Message(&place).source();
+                let callback = self.book_record(account).callback();
+                let from_callback = Same::sound().party(callback, source);
+                if from_callback && self.random.percent(70) {
                     no_source(&mut self.random)
                 } else {
-                    source
+                    respaced(&mut self.random, address_of(source))
                 }
             }
             _ => self.a_source(account),
@@ -223,14 +232,32 @@ impl Generator {
     }
 
     fn a_source(&mut self, account: usize) -> Address {
-        match self.random.below(10) {
+        let source = match self.random.below(10) {
             0..5 => no_source(&mut self.random),
             5 => address_of(self.book_record(account).callback()),
             _ => {
                 let (ton, npi, text) = self.random.choose(&SOURCES);
                 Address::new(ton, npi, text)
             }
-        }
+        };
+        respaced(&mut self.random, source)
+    }
+}
+
+/// Names and a password that lead elsewhere or nowhere, most of the time.
+fn mislead(random: &mut Random, bind: &mut Bind) {
+    let field = match random.below(3) {
+        0 => &mut bind.system_id,
+        1 => &mut bind.password,
+        _ => &mut bind.system_type,
+    };
+    match random.below(4) {
+        0 => *field = vec![b' '; random.between(1, 8)],
+        1 => field.push(b' '),
+        2 if field.starts_with(b" ") => drop(field.remove(0)),
+        2 => field.insert(0, b' '),
+        _ if field.is_empty() => field.push(b'x'),
+        _ => drop(field.pop()),
     }
 }
 
@@ -244,15 +271,22 @@ fn a_destination(random: &mut Random) -> Address {
         return Address::new(1, 1, b"");
     }
     let (ton, npi, text) = random.choose(&DESTINATIONS);
-    Address::new(ton, npi, text)
+    respaced(random, Address::new(ton, npi, text))
 }
 
-fn destination_of(place: Option<Place>) -> Option<Address> {
-    place.map(|place| address_of(Message(&place).destination()))
+fn destination_of(random: &mut Random, place: Option<Place>) -> Option<Address> {
+    place.map(|place| respaced(random, address_of(Message(&place).destination())))
 }
 
 fn address_of(party: Party<'_>) -> Address {
     Address::new(party.ton, party.npi, party.address)
+}
+
+fn respaced(random: &mut Random, address: Address) -> Address {
+    Address {
+        text: texts::respaced_if_any(random, &address.text, texts::ADDRESS),
+        ..address
+    }
 }
 
 fn a_service_type(random: &mut Random) -> Vec<u8> {

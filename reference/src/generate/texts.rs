@@ -1,6 +1,34 @@
 //! Texts that pass their field's rule, and texts that don't.
 
+use crate::centre::without_leading_spaces;
 use crate::random::Random;
+
+/// What an address, a system_id and a system_type have room for.
+pub const ADDRESS: usize = 20;
+pub const SYSTEM_ID: usize = 15;
+pub const SYSTEM_TYPE: usize = 12;
+
+/// A text that compares as this one does: half of the time it has another number of leading
+/// spaces, as far as there is room for any.
+pub fn respaced(random: &mut Random, text: &[u8], room: usize) -> Vec<u8> {
+    let bare = without_leading_spaces(text);
+    let most = room.saturating_sub(bare.len());
+    let mut counts = vec![0, 1, 2, most];
+    counts.retain(|&count| count <= most && count != text.len() - bare.len());
+    if counts.is_empty() || random.percent(50) {
+        return text.to_vec();
+    }
+    let spaces = vec![b' '; random.choose(&counts)];
+    [&spaces, bare].concat()
+}
+
+/// The same of an address or a system_id: an empty one is another than one of spaces only.
+pub fn respaced_if_any(random: &mut Random, text: &[u8], room: usize) -> Vec<u8> {
+    match text {
+        [] => Vec::new(),
+        _ => respaced(random, text, room),
+    }
+}
 
 /// A time somewhere in its limits, at a limit more often than chance would have it.
 pub fn time(random: &mut Random) -> Vec<u8> {
@@ -146,6 +174,22 @@ pub fn message(random: &mut Random) -> Vec<u8> {
 mod tests {
     use super::*;
     use crate::centre::is_time;
+
+    #[test]
+    fn half_of_the_texts_have_other_leading_spaces_as_far_as_there_is_room() {
+        let mut random = Random::new(5);
+        for text in [&b""[..], b" ", b"5", b"  5", b" 2345678", b"12345678"] {
+            let bare = without_leading_spaces(text);
+            let texts: Vec<Vec<u8>> = (0..2000).map(|_| respaced(&mut random, text, 8)).collect();
+            for other in &texts {
+                assert!(other.len() <= 8 && without_leading_spaces(other) == bare);
+            }
+            let others = texts.iter().filter(|other| other[..] != *text).count();
+            let expected = if bare.len() < 8 { 900..1100 } else { 0..1 };
+            assert!(expected.contains(&others), "{others}");
+        }
+        assert!(respaced_if_any(&mut random, b"", 8).is_empty());
+    }
 
     #[test]
     fn good_times_are_times_and_bad_ones_are_not() {

@@ -1,7 +1,7 @@
 //! What each request does, one effect at a time.
 
 use crate::bureau::{bind, book_record, plain_submit, to, Bureau, CALLBACK, STAMP};
-use reference::centre::{layout, Entry, Message};
+use reference::centre::{layout, Entry, Message, Refusal};
 use reference::compose::{Address, Cancel, Query, Replace, Request, Role, Submit};
 
 fn id_text(id: u32) -> Vec<u8> {
@@ -59,11 +59,53 @@ fn a_bind_takes_the_lowest_well_formed_record() {
 }
 
 #[test]
-fn a_bind_compares_octet_for_octet() {
+fn leading_spaces_of_names_do_not_count() {
+    let mut bureau = Bureau::new();
+    bureau.book[64..128].copy_from_slice(&book_record(b"  voice", b"mail", b" "));
+    for (system_id, password, system_type, account) in [
+        (&b" paging"[..], &b"secret"[..], &b"  VMA"[..], 0),
+        (b"voice", b"mail", b"", 1),
+        (b" voice", b"mail", b"   ", 1),
+        (b"last", b"", b" ", 7),
+    ] {
+        for (role, entry) in [
+            (Role::Transmitter, Entry::Transmitter(account)),
+            (Role::Receiver, Entry::Receiver(account)),
+        ] {
+            bureau.state.entries[0] = Entry::Open;
+            let request = bind(role, system_id, password, system_type);
+            assert_eq!(bureau.status(&request), 0);
+            assert_eq!(bureau.state.entries[0], entry);
+        }
+    }
+}
+
+#[test]
+fn a_system_id_of_spaces_only_matches_nothing() {
+    for (kept, sent, status) in [
+        (&b"  "[..], &b"  "[..], 13),
+        (b"  ", b" ", 13),
+        (b"  ", b"", 13),
+        (b"", b" ", 13),
+        (b"", b"", 0),
+    ] {
+        let mut bureau = Bureau::new();
+        bureau.book[64..128].copy_from_slice(&book_record(kept, b"mail", b"VMA"));
+        bureau.state.entries[0] = Entry::Open;
+        let request = bind(Role::Transmitter, sent, b"mail", b"VMA");
+        assert_eq!(bureau.status(&request), status);
+        assert_eq!(bureau.pick(1), Err(Refusal::NothingWaiting), "well formed");
+    }
+}
+
+#[test]
+fn all_else_of_names_and_passwords_counts() {
     for (system_id, password, system_type) in [
-        (&b" paging"[..], &b"secret"[..], &b"VMA"[..]),
+        (&b"paging "[..], &b"secret"[..], &b"VMA"[..]),
         (b"PAGING", b"secret", b"VMA"),
         (b"paging", b"secret", b"VM"),
+        (b"paging", b"secret", b""),
+        (b"paging", b" secret", b"VMA"),
         (b"paging", b"secre", b"VMA"),
         (b"paging", b"", b"VMA"),
         (b"", b"", b""),
@@ -314,6 +356,43 @@ fn an_empty_source_matches_the_callback_only() {
     let all = cancel(b"", none(), to(b"447700900123"));
     assert_eq!(bureau.status(&all), 17);
     assert_eq!(bureau.status(&query(id, to(b"5"))), 0);
+}
+
+/// A message with spaces in both addresses is found by every request without them, and keeps them.
+#[test]
+fn leading_spaces_of_addresses_do_not_count_and_are_kept() {
+    let (source, destination) = (to(b"  100"), to(b" 447700900123"));
+    let spaced = Submit {
+        source: source.clone(),
+        destination: destination.clone(),
+        ..plain_submit()
+    };
+    let plain = |replace_if_present| Submit {
+        source: to(b"100"),
+        replace_if_present,
+        ..plain_submit()
+    };
+    let mut bureau = Bureau::bound();
+    assert_eq!(bureau.submit(spaced.clone()), 1);
+    assert_eq!(bureau.submit(plain(1)), 1);
+    assert_eq!(bureau.status(&query(1, to(b"100"))), 0);
+    let replace = Replace {
+        id: id_text(1),
+        source: to(b" 100"),
+        ..Replace::default()
+    };
+    assert_eq!(bureau.status(&Request::Replace(replace)), 0);
+    let stored = Message(bureau.place(0, 0));
+    assert_eq!(stored.source().address, source.text);
+    assert_eq!(stored.destination().address, destination.text);
+    let one = cancel(&id_text(1), to(b"100"), to(b"447700900123"));
+    assert_eq!(bureau.status(&one), 0);
+    assert_eq!(bureau.submit(plain(0)), 2);
+    assert_eq!(bureau.submit(spaced), 3);
+    let all = cancel(b"", source, destination);
+    assert_eq!(bureau.status(&all), 0);
+    let states: Vec<u8> = (0..3).map(|at| bureau.place(0, at)[0]).collect();
+    assert_eq!(states, [4, 4, 4]);
 }
 
 #[test]

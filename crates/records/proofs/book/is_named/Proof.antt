@@ -27,8 +27,8 @@ part-text-of-end c = search needs
 text-of-requires : tie.Need-text-of-requires
 text-of-requires c κs = search needs
 
-is-same-name-requires : tie.Need-is-same-name-requires
-is-same-name-requires c κs = search needs
+is-same-system-id-requires : tie.Need-is-same-system-id-requires
+is-same-system-id-requires c κs = search needs
 
 sub-text-of-2 : tie.Need-sub-text-of-2
 sub-text-of-2 c = search needs
@@ -42,8 +42,8 @@ part-text-of-end-2 c = search needs
 text-of-requires-2 : tie.Need-text-of-requires-2
 text-of-requires-2 c κs = search needs
 
-is-same-name-requires-2 : tie.Need-is-same-name-requires-2
-is-same-name-requires-2 c κs = search needs
+is-same-name-requires : tie.Need-is-same-name-requires
+is-same-name-requires c κs = search needs
 
 is-used-ok-requires : tie.Need-is-used-ok-requires
 is-used-ok-requires c κs = search needs
@@ -52,13 +52,13 @@ returns : tie.Need-returns
 unfolding named
 returns c =
     rw (c .is-used-ok .ensures, ← (held (c .before .before .before .before .before .before .text-of .ensures)), ← (held (c .before .before .before .text-of2 .ensures)))
-    (last-of-three _ _ _ (rw (c .before .before .before .before .before .is-same-name .ensures, c .before .before .is-same-name2 .ensures) at (c .before .if1 .taken)))
+    (last-of-three _ _ _ (rw (c .before .before .before .before .before .is-same-system-id .ensures, c .before .before .is-same-name .ensures) at (c .before .if1 .taken)))
 
 returns-2 : tie.Need-returns-2
 unfolding named
 returns-2 c =
     rw (← (held (c .before .before .before .before .before .text-of .ensures)), ← (held (c .before .before .text-of2 .ensures)))
-    (none-of-three (usedOk (c .before .before .before .before .before .before .before .before .before .before .args .b .now)) _ _ (rw (c .before .before .before .before .is-same-name .ensures, c .before .is-same-name2 .ensures) at (c .if1 .left)))
+    (none-of-three (usedOk (c .before .before .before .before .before .before .before .before .before .before .args .b .now)) _ _ (rw (c .before .before .before .before .is-same-system-id .ensures, c .before .is-same-name .ensures) at (c .if1 .left)))
 
 pub is-named-spec : {M : Type 1} → statement M
 is-named-spec =
@@ -68,12 +68,12 @@ is-named-spec =
     part-text-of-start
     part-text-of-end
     text-of-requires
-    is-same-name-requires
+    is-same-system-id-requires
     sub-text-of-2
     part-text-of-start-2
     part-text-of-end-2
     text-of-requires-2
-    is-same-name-requires-2
+    is-same-name-requires
     is-used-ok-requires
     returns
     returns-2)
