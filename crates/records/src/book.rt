@@ -78,8 +78,9 @@ fn is_same_system_id(a: &[u8], b: &[u8]) -> bool
     !text::is_given(a, Class::Space) & !text::is_given(b, Class::Space) & is_same_name(a, b)
 }
 
-// Equal as far as both go, and zeros behind that: so nothing has to be copied to the front of its field.
-fn is_same_unspaced(a: &[u8], b: &[u8]) -> bool
+// Whether two fields hold the same text but for leading spaces: equal as far as both go, and zeros behind that. So nothing is copied to the
+// front of its field.
+fn is_same_field(a: &[u8], b: &[u8]) -> bool
     ensures { λ r. ⌜ r ≡ same (unspaced (now (a .entry))) (unspaced (now (b .entry))) ⌝ }
 {
     let x = text::after_spaces(a);
@@ -90,17 +91,26 @@ fn is_same_unspaced(a: &[u8], b: &[u8]) -> bool
         & stretch::all_zero(stretch::from(y, x.len()))
 }
 
-// Few addresses have leading spaces: the others compare as they stand.
+// Whether two addresses are the same, whatever spaces they begin with.
+fn is_same_spaced(a: &[u8], b: &[u8]) -> bool
+    ensures { λ r. ⌜ r ≡ sameAddress (now (a .entry)) (now (b .entry)) ⌝ }
+{
+    stretch::is_same(stretch::first(a, 2), stretch::first(b, 2))
+        & is_same_field(stretch::from(a, 2), stretch::from(b, 2))
+}
+
+// Few addresses have leading spaces: the others compare as they stand, which is quicker. The two calls of the longer comparison keep it out of
+// the searches that this one is compiled into.
 pub fn is_same_address(a: &[u8], b: &[u8]) -> bool
     ensures { λ r. ⌜ r ≡ sameAddress (now (a .entry)) (now (b .entry)) ⌝ }
 {
-    let x = stretch::from(a, 2);
-    let y = stretch::from(b, 2);
-    if (class::lead_of(x, Class::Space) == 0) & (class::lead_of(y, Class::Space) == 0) {
-        stretch::is_same(a, b)
-    } else {
-        stretch::is_same(stretch::first(a, 2), stretch::first(b, 2)) & is_same_unspaced(x, y)
+    if 0 < class::lead_of(stretch::from(a, 2), Class::Space) {
+        return is_same_spaced(a, b);
     }
+    if 0 < class::lead_of(stretch::from(b, 2), Class::Space) {
+        return is_same_spaced(a, b);
+    }
+    stretch::is_same(a, b)
 }
 
 // Whether a bind's system_id and system_type name this record.
