@@ -108,7 +108,10 @@ inverook_moved inverook_close(inverook_state state, size_t session);
 
 /* Takes at most one PDU from the octets received on a session. Numbers, in this order: 2, 3, 4, 5, 6, 9, 1.
  * With 0, `consumed` octets have been dealt with: the rest is the caller's to pass again, with what follows. The first `written` octets of
- * space (0, or 16 to 44) are the reply to send; the rest of space is as it was. The state that comes back is the one to pass next. */
+ * space (0, or 16 to 44) are the reply to send; the rest of space is as it was. The state that comes back is the one to pass next.
+ * Leading spaces don't count when addresses, system_ids and system_types are compared, and are stored as sent. So of two book records whose
+ * names differ in leading spaces alone only the lower can be bound (the higher, where the lower is ill formed), and one whose system_id is
+ * spaces only can't be bound at all. */
 inverook_taken inverook_take(const uint8_t *book, size_t book_length,
                              uint8_t *table, size_t table_length,
                              inverook_state state,

@@ -1,4 +1,5 @@
 pub mod StretchLaws
+pub mod EquivalenceLaws
 pub mod LentLaws
 pub mod PatchLaws
 pub mod NumberLaws

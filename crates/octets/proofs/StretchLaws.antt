@@ -181,12 +181,12 @@ same-apart (suc n) (x ∷ xs) [] = refl
 same-apart (suc n) (x ∷ xs) (y ∷ ys) =
     and-assoc (eqb x y) (same (take n xs) (take n ys)) (same (drop n xs) (drop n ys)) ∙ ap (λ (t : Bool). eqb x y && t) (same-apart n xs ys)
 
--- two stretches that zeros fill up to one length: equal as far as both go, and zeros behind that
 zeros-filled : (n : ℕ) (xs : List ℕ) → same (xs ++ replicate n 0) (replicate (length xs + n) 0) ≡ zeros xs
 unfolding same every
 zeros-filled n [] = rw (zero-add n) (same-refl (replicate n 0))
 zeros-filled n (x ∷ xs) = rw (suc-add (length xs) n) (ap (λ (t : Bool). eqb x 0 && t) (zeros-filled n xs))
 
+-- two stretches that zeros fill up to one length: equal as far as both go, and zeros behind that
 pub same-filled : (m n : ℕ) (a b : List ℕ) → length a + m ≡ length b + n
     → same (a ++ replicate m 0) (b ++ replicate n 0) ≡ (same (take (length b) a) (take (length a) b) && zeros (drop (length b) a) && zeros (drop (length a) b))
 unfolding same every

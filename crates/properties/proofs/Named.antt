@@ -4,7 +4,7 @@ use mathlib.Core.Bool.{true}
 use mathlib.Core.List.{List}
 use Prim.Native.Nat.{ℕ, _<_}
 use Rattle.records.specs.Book.{bookRecordSize, bookRecord, usedOk, named}
-use Rattle.records.proofs.SpaceLaws.{named-used}
+use Rattle.records.proofs.NamedLaws.{named-used}
 use Rattle.store.specs.Places.{Below}
 use Rattle.store.specs.Search.{namedPlace}
 use Rattle.store.specs.declared.places.Found.the-variants.{At}

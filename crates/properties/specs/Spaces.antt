@@ -1,12 +1,13 @@
 -- Leading spaces don't count when system_id, system_type and addresses are compared (document 02, 2): what the comparisons of crate records come to, and
--- that who writes a name or an address with other leading spaces finds the same account and the same messages.
+-- that whoever writes a name or an address with other leading spaces finds the same account and the same messages.
 use Prim.Native.Nat.{ℕ, _≤_}
 use mathlib.Core.Path.{_≡_}
-use mathlib.Core.Bool.{Bool, true, false, _&&_}
+use mathlib.Core.Bool.{true, false, _&&_}
 use mathlib.Core.List.{List, [], _∷_, _++_}
 use lib.ListN.{length, take, drop, replicate}
 use lib.Dec.{eqb}
 use Rattle.octets.specs.Stretch.{padded, same, every}
+use Rattle.octets.specs.Equivalence.{Equivalence}
 use Rattle.forms.specs.Class.{inClass, lead}
 use Rattle.forms.specs.Field.{textOf}
 use Rattle.forms.specs.declared.class.Class.the-variants.{NotNul, Space}
@@ -23,20 +24,15 @@ use Rattle.account.specs.Replace.{replacedIn}
 
 -- ---- the words
 
-pub record Equivalence (alike : List ℕ → List ℕ → Bool) : Type 0 where
-  pub reflexive : (a : List ℕ) → alike a a ≡ true
-  pub symmetric : (a b : List ℕ) → alike a b ≡ alike b a
-  pub transitive : (a b c : List ℕ) → alike a b ≡ true → alike b c ≡ true → alike a c ≡ true
-
 -- a text that begins with no space
-abbrev pub Unspaced : List ℕ → Type 0
-Unspaced text = lead (inClass Space) text ≡ 0
+abbrev pub Plain : List ℕ → Type 0
+Plain text = lead (inClass Space) text ≡ 0
 
 -- an address as it is kept: ton, npi, and a text of at most 20 characters, zeros behind it
 abbrev pub kept : ℕ → ℕ → List ℕ → List ℕ
 kept ton npi text = ton ∷ npi ∷ padded 20 text
 
--- a text that an address can have: none of its characters is NUL
+-- a text that an address can have: at most 20 characters, none of them NUL
 pub record AddressText (text : List ℕ) : Type 0 where
   pub short : length text ≤ 20
   pub noNul : every (inClass NotNul) text ≡ true
@@ -49,8 +45,8 @@ pub record Compared : Type 0 where
   pub names : Equivalence sameName
   pub addresses : Equivalence sameAddress
   -- without leading spaces they are equality, octet for octet
-  pub plainNames : (a b : List ℕ) → Unspaced a → Unspaced b → sameName a b ≡ same a b
-  pub plainAddresses : (a b : List ℕ) → Unspaced (drop 2 a) → Unspaced (drop 2 b) → sameAddress a b ≡ same a b
+  pub plainNames : (a b : List ℕ) → Plain a → Plain b → sameName a b ≡ same a b
+  pub plainAddresses : (a b : List ℕ) → Plain (drop 2 a) → Plain (drop 2 b) → sameAddress a b ≡ same a b
   -- of addresses as they are kept: ton and npi equal, and the texts equal but for leading spaces
   pub keptAddresses : (ton npi ton′ npi′ : ℕ) (text text′ : List ℕ) → AddressText text → AddressText text′
       → sameAddress (kept ton npi text) (kept ton′ npi′ text′) ≡ (eqb ton ton′ && eqb npi npi′ && sameName text text′)

@@ -1,2 +1,3 @@
 pub mod RecordLaws
 pub mod SpaceLaws
+pub mod NamedLaws

@@ -83,7 +83,6 @@ unfoldable pub named : List ℕ → List ℕ → List ℕ → Bool
 named system kind b = usedOk b && sameSystemId (textOf (systemOf b)) system && sameName (textOf (systemTypeOf b)) kind
 
 -- passwords compare octet for octet, spaces included
-
 unfoldable pub passwordIs : List ℕ → List ℕ → Bool
 passwordIs password b = same (textOf (passwordOf b)) password
 

@@ -78,9 +78,9 @@ fn is_same_system_id(a: &[u8], b: &[u8]) -> bool
     !text::is_given(a, Class::Space) & !text::is_given(b, Class::Space) & is_same_name(a, b)
 }
 
-// Whether two fields hold the same text but for leading spaces: equal as far as both go, and zeros behind that. So nothing is copied to the
-// front of its field.
-fn is_same_field(a: &[u8], b: &[u8]) -> bool
+// Whether two addresses' numbers are the same but for leading spaces: equal as far as both go, and zeros behind that, so that nothing has to be
+// copied to the front of its field.
+fn is_same_number(a: &[u8], b: &[u8]) -> bool
     ensures { λ r. ⌜ r ≡ same (unspaced (now (a .entry))) (unspaced (now (b .entry))) ⌝ }
 {
     let x = text::after_spaces(a);
@@ -96,7 +96,7 @@ fn is_same_spaced(a: &[u8], b: &[u8]) -> bool
     ensures { λ r. ⌜ r ≡ sameAddress (now (a .entry)) (now (b .entry)) ⌝ }
 {
     stretch::is_same(stretch::first(a, 2), stretch::first(b, 2))
-        & is_same_field(stretch::from(a, 2), stretch::from(b, 2))
+        & is_same_number(stretch::from(a, 2), stretch::from(b, 2))
 }
 
 // Few addresses have leading spaces: the others compare as they stand, which is quicker. The two calls of the longer comparison keep it out of

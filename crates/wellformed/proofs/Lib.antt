@@ -17,3 +17,4 @@ pub mod Issued
 pub mod Elsewhere
 pub mod Marks
 pub mod Arises
+pub mod Alike

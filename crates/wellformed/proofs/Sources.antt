@@ -17,13 +17,12 @@ use Rattle.forms.specs.Field.{textOf, isField}
 use Rattle.forms.specs.declared.class.Class.the-variants.{NotNul, Decimal}
 use Rattle.forms.specs.declared.text.Form.{Form}
 use Rattle.forms.specs.declared.text.Form.the-variants.{Ascii, Digits, Address, AddressOrNone}
-use Rattle.forms.proofs.ClassLaws.{lead-within, within-low}
+use Rattle.forms.proofs.ClassLaws.{lead-within, within-low, lead-append}
 use Rattle.records.specs.Record.{addressOk}
 use Rattle.records.specs.Book.{bookRecordSize, systemOf, passwordOf, systemTypeOf, callbackOf, endedText, bookOk, usedOk}
 use Rattle.source.specs.Source.{noAddress, sourceFor}
 use Rattle.wellformed.specs.Rules.{Addressed}
 use Rattle.wellformed.proofs.GoodIs.{both, or-second}
-use Rattle.wellformed.proofs.TextFields.{lead-append}
 
 -- the two rules of a field
 module _ (form : Form) (field : List ℕ) where

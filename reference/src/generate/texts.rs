@@ -22,7 +22,8 @@ pub fn respaced(random: &mut Random, text: &[u8], room: usize) -> Vec<u8> {
     [&spaces, bare].concat()
 }
 
-/// The same of an address or a system_id: an empty one is another than one of spaces only.
+/// The same of an address or a system_id: an empty one is another than one of spaces only, and
+/// stays empty. A system_id of spaces only may become empty, and then names another account.
 pub fn respaced_if_any(random: &mut Random, text: &[u8], room: usize) -> Vec<u8> {
     match text {
         [] => Vec::new(),

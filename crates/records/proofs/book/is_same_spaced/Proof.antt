@@ -20,12 +20,12 @@ from-requires c κs = search needs
 from-requires-2 : tie.Need-from-requires-2
 from-requires-2 c κs = search needs
 
-is-same-field-requires : tie.Need-is-same-field-requires
-is-same-field-requires c κs = search needs
+is-same-number-requires : tie.Need-is-same-number-requires
+is-same-number-requires c κs = search needs
 
 returns : tie.Need-returns
 unfolding sameAddress
-returns c = rw (c .before .before .before .is-same .ensures, c .is-same-field .ensures, held (c .before .before .before .before .before .first .ensures), held (c .before .before .before .before .first2 .ensures), held (c .before .before .from .ensures), held (c .before .from2 .ensures))
+returns c = rw (c .before .before .before .is-same .ensures, c .is-same-number .ensures, held (c .before .before .before .before .before .first .ensures), held (c .before .before .before .before .first2 .ensures), held (c .before .before .from .ensures), held (c .before .from2 .ensures))
 
 pub is-same-spaced-spec : {M : Type 1} → statement M
 is-same-spaced-spec =
@@ -36,5 +36,5 @@ is-same-spaced-spec =
     is-same-requires
     from-requires
     from-requires-2
-    is-same-field-requires
+    is-same-number-requires
     returns)

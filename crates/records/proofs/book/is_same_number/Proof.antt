@@ -1,12 +1,12 @@
--- `records::book::is_same_field` meets its contract. Assumes nothing.
+-- `records::book::is_same_number` meets its contract. Assumes nothing.
 use lib.ListN.{length}
 use Rattle.octets.proofs.LentLaws.{held}
 use Rattle.forms.specs.Text.{afterSpaces}
 use Rattle.forms.proofs.TextLaws.{afterSpaces-within}
 use Rattle.records.proofs.SpaceLaws.{same-padded}
 use borrow.Author.Needs.{needs}
-use Rattle.records.proofs.book.is_same_field.Statement.{statement}
-use Rattle.records.proofs.book.is_same_field.Tie as tie
+use Rattle.records.proofs.book.is_same_number.Statement.{statement}
+use Rattle.records.proofs.book.is_same_number.Tie as tie
 
 after-spaces-requires : tie.Need-after-spaces-requires
 after-spaces-requires c κs = search needs
@@ -43,8 +43,8 @@ returns c =
     rw (c .before .before .before .before .is-same .ensures, c .before .before .all-zero .ensures, c .all-zero2 .ensures, held (c .before .before .before .before .before .before .first .ensures), held (c .before .before .before .before .before .first2 .ensures), held (c .before .before .before .from .ensures), held (c .before .from2 .ensures), held (c .before .before .before .before .before .before .before .before .after-spaces .ensures), held (c .before .before .before .before .before .before .before .after-spaces2 .ensures))
     (same-padded (length a) (length b) (afterSpaces a) (afterSpaces b) (afterSpaces-within a) (afterSpaces-within b))
 
-pub is-same-field-spec : {M : Type 1} → statement M
-is-same-field-spec =
+pub is-same-number-spec : {M : Type 1} → statement M
+is-same-number-spec =
     tie.close
     (tie.spec
     after-spaces-requires
