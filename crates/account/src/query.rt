@@ -11,7 +11,7 @@ use store::places::Found;
 use wire::status;
 
 // The status, and the place of the record asked for.
-#[derive(Drop)]
+#[derive(Clone, Copy)]
 pub struct Asked {
     pub status: u8,
     pub place: Found,

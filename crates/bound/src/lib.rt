@@ -20,7 +20,7 @@ use wire::frame::Frame;
 use wire::{frame, status};
 
 // What an account's turn comes to; its part stands where it was lent.
-#[derive(Drop)]
+#[derive(Clone, Copy)]
 pub struct Acted {
     pub number: u8,
     pub consumed: usize,
@@ -245,7 +245,7 @@ fn command(
 }
 
 // What octets come to, and the session's receipt afterwards.
-#[derive(Drop)]
+#[derive(Clone, Copy)]
 pub struct Handled {
     pub acted: Acted,
     pub receipt: Receipt,

@@ -13,7 +13,7 @@ use records::layout;
 use session::{Entry, State, number};
 
 // A number, how many octets were written, and the state handed back.
-#[derive(Drop)]
+#[derive(Clone, Copy)]
 pub struct Delivered {
     pub number: u8,
     pub written: usize,

@@ -94,7 +94,7 @@ pub fn outcome(
 }
 
 // The place that is picked, or the number why none is.
-#[derive(Drop)]
+#[derive(Clone, Copy)]
 pub enum Placed {
     Refused(u8),
     Place(usize),

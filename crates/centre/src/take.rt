@@ -17,7 +17,7 @@ use records::layout;
 use session::{Entry, Receipt, State, number};
 
 // A number, how many octets were consumed and written, and the state handed back.
-#[derive(Drop)]
+#[derive(Clone, Copy)]
 pub struct Taken {
     pub number: u8,
     pub consumed: usize,

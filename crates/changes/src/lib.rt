@@ -11,7 +11,7 @@ use forms::{field, time};
 use records::layout;
 
 // A submission's fields; its service_type and text stand beside it.
-#[derive(Drop)]
+#[derive(Clone, Copy)]
 pub struct Fields {
     pub source: [u8; field::ADDRESS_SIZE],
     pub destination: [u8; field::ADDRESS_SIZE],
@@ -153,7 +153,7 @@ fn retime(r: &mut [u8], at: usize, time: &[u8; time::LENGTH])
 }
 
 // A correction: what replace_sm brings.
-#[derive(Drop)]
+#[derive(Clone, Copy)]
 pub struct Correction {
     pub schedule: [u8; time::LENGTH],
     pub validity: [u8; time::LENGTH],

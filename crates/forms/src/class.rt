@@ -3,7 +3,7 @@ ghost use Rattle.std.specs.Prelude.{◌≡◌, ◌≤◌, length};
 ghost use Rattle.octets.specs.Stretch.{every};
 ghost use Rattle.forms.specs.Class.{decimal, hexadecimal, in_class, lead};
 
-#[derive(Drop)]
+#[derive(Clone, Copy)]
 pub enum Class {
     NotNul,
     Ascii,

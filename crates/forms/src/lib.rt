@@ -1,4 +1,6 @@
 // The forms that texts and times take, on the wire and in stored records alike.
+#![tactic(auto)]
+
 pub mod class;
 pub mod field;
 pub mod text;

@@ -10,7 +10,7 @@ use crate::class::Class;
 // The longest short message.
 pub const LONGEST_TEXT: u8 = 140;
 
-#[derive(Drop)]
+#[derive(Clone, Copy)]
 pub enum Form {
     Ascii,
     Digits,
@@ -80,7 +80,7 @@ fn hex_value(digits: &[u8]) -> u32
 }
 
 // A message id as a request gives it: none, which is not the number 0.
-#[derive(Drop)]
+#[derive(Clone, Copy)]
 pub enum MessageId {
     Empty,
     Number(u32),

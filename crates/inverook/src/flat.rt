@@ -9,7 +9,7 @@ use session::{Entry, Receipt, Session, State};
 
 // inverook_state of include/inverook.h.
 #[repr(C)]
-#[derive(Drop)]
+#[derive(Clone, Copy)]
 pub struct InverookState {
     pub kinds: [u8; session::SESSIONS],
     pub accounts: [u8; session::SESSIONS],

@@ -16,7 +16,7 @@ use records::layout;
 
 // inverook_moved of the header.
 #[repr(C)]
-#[derive(Drop)]
+#[derive(Clone, Copy)]
 pub struct InverookMoved {
     pub number: u8,
     pub state: InverookState,
@@ -24,7 +24,7 @@ pub struct InverookMoved {
 
 // inverook_taken of the header.
 #[repr(C)]
-#[derive(Drop)]
+#[derive(Clone, Copy)]
 pub struct InverookTaken {
     pub number: u8,
     pub consumed: usize,
@@ -34,7 +34,7 @@ pub struct InverookTaken {
 
 // inverook_delivered of the header.
 #[repr(C)]
-#[derive(Drop)]
+#[derive(Clone, Copy)]
 pub struct InverookDelivered {
     pub number: u8,
     pub written: usize,

@@ -7,7 +7,7 @@ pub const SIZE: usize = 544;
 const PAYLOAD_SIZE: usize = 512;
 
 // What a record asks for.
-#[derive(Drop)]
+#[derive(Clone, Copy)]
 pub enum Order {
     Open,
     Octets,

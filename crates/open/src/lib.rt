@@ -14,14 +14,14 @@ use wire::frame::Frame;
 use wire::{fields, frame, status};
 
 // What a bind comes to.
-#[derive(Drop)]
+#[derive(Clone, Copy)]
 pub struct Bound {
     pub status: u8,
     pub entry: Entry,
 }
 
 // What octets on an open session come to: nothing of the account's is at hand.
-#[derive(Drop)]
+#[derive(Clone, Copy)]
 pub struct Fronted {
     pub number: u8,
     pub consumed: usize,

@@ -10,7 +10,7 @@ use session::{Receipt, number};
 use store::places::Found;
 
 // A number, how many octets were written, and the session's receipt afterwards.
-#[derive(Drop)]
+#[derive(Clone, Copy)]
 pub struct Offer {
     pub number: u8,
     pub written: usize,

@@ -7,7 +7,7 @@ use wire::cursor::Cursor;
 use wire::fields::Span;
 use wire::{fields, status};
 
-#[derive(Drop)]
+#[derive(Clone, Copy)]
 pub struct Bind {
     pub system: Span,
     pub password: Span,
@@ -18,7 +18,7 @@ pub struct Bind {
     pub range: Span,
 }
 
-#[derive(Drop)]
+#[derive(Clone, Copy)]
 pub struct BindRead {
     pub status: u8,
     pub request: Bind,

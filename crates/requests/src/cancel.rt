@@ -8,7 +8,7 @@ use wire::cursor::Cursor;
 use wire::fields::{Address, Span};
 use wire::{fields, status};
 
-#[derive(Drop)]
+#[derive(Clone, Copy)]
 pub struct Cancel {
     pub service: Span,
     pub id: MessageId,
@@ -16,7 +16,7 @@ pub struct Cancel {
     pub destination: Address,
 }
 
-#[derive(Drop)]
+#[derive(Clone, Copy)]
 pub struct CancelRead {
     pub status: u8,
     pub request: Cancel,

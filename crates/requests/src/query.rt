@@ -7,13 +7,13 @@ use wire::cursor::Cursor;
 use wire::fields::Address;
 use wire::{fields, status};
 
-#[derive(Drop)]
+#[derive(Clone, Copy)]
 pub struct Query {
     pub id: MessageId,
     pub source: Address,
 }
 
-#[derive(Drop)]
+#[derive(Clone, Copy)]
 pub struct QueryRead {
     pub status: u8,
     pub request: Query,

@@ -7,7 +7,7 @@ use wire::cursor::Cursor;
 use wire::fields::{Address, Span, Time};
 use wire::{fields, status};
 
-#[derive(Drop)]
+#[derive(Clone, Copy)]
 pub struct Replace {
     pub id: MessageId,
     pub source: Address,
@@ -18,7 +18,7 @@ pub struct Replace {
     pub text: Span,
 }
 
-#[derive(Drop)]
+#[derive(Clone, Copy)]
 pub struct ReplaceRead {
     pub status: u8,
     pub request: Replace,

@@ -7,7 +7,7 @@ use wire::cursor::Cursor;
 use wire::fields::{Address, Span, Time};
 use wire::{fields, status};
 
-#[derive(Drop)]
+#[derive(Clone, Copy)]
 pub struct Submit {
     pub service: Span,
     pub source: Address,
@@ -24,7 +24,7 @@ pub struct Submit {
     pub text: Span,
 }
 
-#[derive(Drop)]
+#[derive(Clone, Copy)]
 pub struct SubmitRead {
     pub status: u8,
     pub request: Submit,

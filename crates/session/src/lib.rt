@@ -1,4 +1,6 @@
 // The state: sixteen sessions, each with the receipt that is outstanding on it, and eight last-issued ids. It goes in by value and comes back.
+#![tactic(auto)]
+
 pub mod number;
 
 ghost use Rattle.std.specs.Prelude.{◌≡◌, ◌<◌, set};
@@ -7,7 +9,7 @@ ghost use Rattle.session.specs.State.{session_count, account_count, fresh, opene
 use records::layout;
 
 // Exactly one of these, each session.
-#[derive(Drop)]
+#[derive(Clone, Copy)]
 pub enum Entry {
     Closed,
     Open,
@@ -17,26 +19,26 @@ pub enum Entry {
 }
 
 // What the session's peer has not answered yet: nothing, or a receipt, with its message's id and its sequence number. Only a receiver's counts.
-#[derive(Drop)]
+#[derive(Clone, Copy)]
 pub enum Receipt {
     None,
     Outstanding(u32, u32),
 }
 
-#[derive(Drop)]
+#[derive(Clone, Copy)]
 pub struct Session {
     pub entry: Entry,
     pub receipt: Receipt,
 }
 
-#[derive(Drop)]
+#[derive(Clone, Copy)]
 pub struct State {
     pub sessions: [Session; SESSIONS],
     pub lasts: [u32; layout::ACCOUNTS],
 }
 
 // A number, and the state handed back.
-#[derive(Drop)]
+#[derive(Clone, Copy)]
 pub struct Moved {
     pub number: u8,
     pub state: State,

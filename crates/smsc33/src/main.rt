@@ -7,7 +7,7 @@ use lines::{record, text};
 use records::{book, layout};
 use session::State;
 
-#[derive(Drop)]
+#[derive(Clone, Copy)]
 struct Went {
     more: bool,
     state: State,
@@ -46,7 +46,7 @@ fn run(book: &[u8], table: &mut [u8]) {
 }
 
 // The octets of the book's file that were read, or that it could not be read.
-#[derive(Drop)]
+#[derive(Clone, Copy)]
 struct Book {
     failed: bool,
     count: usize,

@@ -13,7 +13,7 @@ use lines::{record, text};
 use session::State;
 
 // The line is the first `length` octets of the text.
-#[derive(Drop)]
+#[derive(Clone, Copy)]
 pub struct Turned {
     pub more: bool,
     pub length: usize,

@@ -8,14 +8,14 @@ ghost use Rattle.store.specs.Places.{record_at, record_part, none, found_of};
 use records::layout;
 
 // A place, or absent.
-#[derive(Drop)]
+#[derive(Clone, Copy)]
 pub enum Found {
     At(usize),
     Nowhere,
 }
 
 // The best place of a search so far.
-#[derive(Drop)]
+#[derive(Clone, Copy)]
 pub struct Best {
     pub found: bool,
     pub rank: u64,

@@ -11,7 +11,7 @@ use crate::places::{Best, Found};
 use records::{book, layout};
 
 // What a record must be, to be looked at: of an id; waiting between two addresses; empty; finished and owed no receipt; waiting.
-#[derive(Drop)]
+#[derive(Clone, Copy)]
 pub enum Search {
     Id(u32),
     Pair,

@@ -16,7 +16,7 @@ use wire::{fields, status};
 const LAST_OF_ALL: u32 = 0xFFFF_FFFF;
 
 // The status, the id returned, and the last id afterwards.
-#[derive(Drop)]
+#[derive(Clone, Copy)]
 pub struct Given {
     pub status: u8,
     pub id: MessageId,

@@ -5,7 +5,7 @@ ghost use Rattle.wire.specs.Cursor.{start, refuse, end_of, not_both};
 
 use crate::status;
 
-#[derive(Drop)]
+#[derive(Clone, Copy)]
 pub struct Cursor {
     pub at: usize,
     pub status: u8,

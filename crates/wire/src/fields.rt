@@ -12,7 +12,7 @@ use forms::{field, text, time};
 // A time's characters and their NUL.
 const TIME_FIELD: usize = time::LENGTH + 1;
 
-#[derive(Drop)]
+#[derive(Clone, Copy)]
 pub struct OctetRead {
     pub value: u8,
     pub next: Cursor,
@@ -50,13 +50,13 @@ pub fn read_octet(body: &[u8], c: Cursor, most: u8, bad: u8) -> OctetRead
 }
 
 // A stretch of the body: where it starts and how long it is.
-#[derive(Drop)]
+#[derive(Clone, Copy)]
 pub struct Span {
     pub from: usize,
     pub len: usize,
 }
 
-#[derive(Drop)]
+#[derive(Clone, Copy)]
 pub struct SpanRead {
     pub value: Span,
     pub next: Cursor,
@@ -111,12 +111,12 @@ pub fn read_text(body: &[u8], c: Cursor, form: Form, most: usize, bad: u8) -> Sp
 }
 
 // Type of number, numbering plan, and the address in 20 octets, zeros behind it; all 20 are zero where none is given.
-#[derive(Drop)]
+#[derive(Clone, Copy)]
 pub struct Address {
     pub octets: [u8; field::ADDRESS_SIZE],
 }
 
-#[derive(Drop)]
+#[derive(Clone, Copy)]
 pub struct AddressRead {
     pub value: Address,
     pub next: Cursor,
@@ -142,7 +142,7 @@ pub fn read_address(body: &[u8], c: Cursor, bad: u8) -> AddressRead
     }
 }
 
-#[derive(Drop)]
+#[derive(Clone, Copy)]
 pub struct IdRead {
     pub value: MessageId,
     pub next: Cursor,
@@ -165,12 +165,12 @@ pub fn read_id(body: &[u8], c: Cursor) -> IdRead
 }
 
 // A time's 16 characters, or zeros where none is given.
-#[derive(Drop)]
+#[derive(Clone, Copy)]
 pub struct Time {
     pub octets: [u8; time::LENGTH],
 }
 
-#[derive(Drop)]
+#[derive(Clone, Copy)]
 pub struct TimeRead {
     pub value: Time,
     pub next: Cursor,

@@ -6,7 +6,7 @@ pub const SHORTEST_PDU: u32 = 16;
 
 pub const LONGEST_PDU: u32 = 512;
 
-#[derive(Drop)]
+#[derive(Clone, Copy)]
 pub enum Frame {
     // more octets are needed
     More,
@@ -34,7 +34,7 @@ pub fn frame_of(octets: &[u8]) -> Frame
 }
 
 // A header but for its length. Of a request the status field is ignored.
-#[derive(Drop)]
+#[derive(Clone, Copy)]
 pub struct Header {
     pub command: u32,
     pub status: u32,

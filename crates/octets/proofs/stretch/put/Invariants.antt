@@ -1,0 +1,12 @@
+-- `octets::stretch::put` meets its contract: after i turns the first i octets of the source are pasted. Assumes nothing.
+use mathlib.Core.Path.{◌≡◌}
+use Prim.Native.Nat.{◌≤◌, ◌-◌}
+use lib.ListN.{length}
+use lib.Seq.{paste}
+use Rattle.octets.proofs.stretch.put.Given as goal
+
+abbrev pub invariant-loop-i : goal.invariant-loop-i
+invariant-loop-i l = (l.i ≤ length l.source) × ((l.target ≡ paste l.initial.target l.at l.source l.i) × (length l.target ≡ length l.initial.target))
+
+abbrev pub decreases-loop-i : goal.decreases-loop-i
+decreases-loop-i l = length l.source - l.i

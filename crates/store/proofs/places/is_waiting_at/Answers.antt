@@ -1,0 +1,6 @@
+-- `store::places::is_waiting_at` meets its contract. Assumes nothing.
+use Rattle.octets.proofs.LentLaws.{held}
+use Rattle.store.proofs.places.is_waiting_at.Goals as goal
+
+pub returns : goal.returns
+returns c = rw (← (held c.record_at-r.ensures.0))
