@@ -1,4 +1,6 @@
 // What is written into records: a new one, a final state with its mark, a mark taken away, a new text, a correction.
+#![tactic(auto)]
+
 ghost use Rattle.std.specs.Prelude.{◌≡◌, ◌+◌, ◌≤◌, ◌<◌, [], ◌∷◌, length};
 ghost use Rattle.octets.specs.Stretch.{patch};
 ghost use Rattle.forms.specs.Text.{longest_text};

@@ -1,4 +1,6 @@
 // Whose message it is, and which record a message id names.
+#![tactic(auto)]
+
 ghost use Rattle.std.specs.Prelude.{◌≡◌, length};
 ghost use Rattle.records.specs.Layout.{part_size};
 ghost use Rattle.records.specs.Book.{book_record_size};
