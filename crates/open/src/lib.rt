@@ -1,4 +1,6 @@
 // Octets on an open session: it has no account, and no table is at hand.
+#![tactic(auto)]
+
 ghost use Rattle.std.specs.Prelude.{◌≡◌, ◌≤◌, length};
 ghost use Rattle.answers.specs.Reply.{space_needed};
 ghost use Rattle.records.specs.Book.{book_size};

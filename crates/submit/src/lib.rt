@@ -1,4 +1,6 @@
 // What submit_sm does to ONE account: its sixteen places and its last id.
+#![tactic(auto)]
+
 ghost use Rattle.std.specs.Prelude.{◌≡◌, length};
 ghost use Rattle.requests.specs.Submit.{SubmitInside};
 ghost use Rattle.records.specs.Layout.{part_size};
