@@ -1,5 +1,7 @@
 // Octets on a bound session: what is asked of one account, of which its book record, its part of the table and its last id are at hand, and the
 // receipt that is outstanding on the session.
+#![tactic(auto)]
+
 ghost use Rattle.std.specs.Prelude.{◌≡◌, false, ◌<◌, ◌≤◌, [], length};
 ghost use Rattle.forms.specs.Time.{time_length};
 ghost use Rattle.wire.specs.Frame.{frame_of, header_of};
