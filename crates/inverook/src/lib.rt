@@ -1,4 +1,6 @@
 // The centre for C: include/inverook.h tells a caller what each function is given and gives. A slice is passed as pointer and length.
+#![tactic(auto)]
+
 mod flat;
 
 ghost use Rattle.std.specs.Prelude.{◌≡◌, ℕ, List};
