@@ -1,8 +1,6 @@
 -- `account::cancel::delete_all` meets its contract: the places so far, and those to come, are all of them. Assumes nothing.
 use mathlib.Core.Path.{refl, sym, ◌∙◌}
-use Prim.Native.Nat.{◌-◌}
 use native.Mathlib.Omega.{arith}
-use Rattle.store.specs.Places.{on_places}
 use Rattle.store.proofs.PlacesLaws.{on_places-more, on_places-end}
 use Rattle.account.specs.Cancel.{deleted_if}
 use Rattle.account.proofs.cancel.delete_all.Goals as goal

@@ -1,8 +1,7 @@
 -- `forms::class::lead_of` meets its contract: the run from the start ends where the run from i does. Assumes nothing.
 use mathlib.Core.Path.{sym, ◌∙◌}
-use Prim.Native.Nat.{◌-◌}
 use native.Mathlib.Omega.{arith}
-use Rattle.forms.specs.Class.{lead, in_class}
+use Rattle.forms.specs.Class.{in_class}
 use Rattle.forms.proofs.ClassLaws.{lead-start, lead-stops, lead-goes, lead-end}
 use Rattle.forms.proofs.class.lead_of.Goals as goal
 

@@ -1,6 +1,5 @@
 -- `forms::text::hex_value` meets its contract: what stands so far, with the digits to come behind it, is the number. Assumes nothing.
 use mathlib.Core.Path.{refl, sym, ◌∙◌}
-use Prim.Native.Nat.{◌-◌}
 use native.Mathlib.Omega.{arith}
 use Rattle.forms.proofs.HexLaws.{hex-more, hex-end, sixteenfold, seven}
 use Rattle.forms.proofs.text.hex_value.Goals as goal

@@ -1,10 +1,8 @@
 -- `lines::text::put_hex` meets its contract. Assumes nothing.
-use Prim.Native.Nat.{◌-◌}
 use mathlib.Core.Path.{◌≡◌, refl, sym}
 use native.Mathlib.Omega.{arith}
-use lib.ListN.{length, length-set, take}
+use lib.ListN.{length-set, take}
 use lib.Seq.{take_all}
-use Rattle.octets.specs.Stretch.{patch}
 use Rattle.octets.proofs.PatchLaws.{patch-nothing}
 use Rattle.lines.specs.Line.{hex_of}
 use Rattle.lines.proofs.TextLaws.{hex-length, hex-turn}

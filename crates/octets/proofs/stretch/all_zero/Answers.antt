@@ -1,6 +1,5 @@
 -- `octets::stretch::all_zero` meets its contract: the tests so far, and those to come, are all of them. Assumes nothing.
 use mathlib.Core.Path.{refl, sym, ◌∙◌}
-use Prim.Native.Nat.{◌-◌}
 use native.Mathlib.Omega.{arith}
 use Rattle.octets.specs.Stretch.{is_zero}
 use Rattle.octets.proofs.StretchLaws.{every-turn, every-end}

@@ -1,8 +1,6 @@
 -- `octets::stretch::is_same` meets its contract: the comparisons so far, and those to come, are all of them. Assumes nothing.
 use mathlib.Core.Path.{refl, sym, ◌∙◌}
-use Prim.Native.Nat.{◌-◌}
 use native.Mathlib.Omega.{arith}
-use Rattle.octets.specs.Stretch.{same}
 use Rattle.octets.proofs.StretchLaws.{same_turn, same_end, same-lengths}
 use Rattle.octets.proofs.stretch.is_same.Goals as goal
 

@@ -1,9 +1,9 @@
 -- `octets::stretch::put` meets its contract: after i turns the first i octets of the source are pasted. Assumes nothing.
 use mathlib.Core.Path.{refl, ap, ◌∙◌}
 use mathlib.Core.List.{List}
-use Prim.Native.Nat.{ℕ, ◌+◌, ◌-◌}
+use Prim.Native.Nat.{ℕ, ◌+◌}
 use native.Mathlib.Omega.{arith}
-use lib.ListN.{length, set, get_or, length-set}
+use lib.ListN.{set, get_or, length-set}
 use Rattle.octets.proofs.PatchLaws.{put-none, put-more, put_all}
 use Rattle.octets.proofs.stretch.put.Goals as goal
 

@@ -1,8 +1,6 @@
 -- `store::account::are_ids_apart` meets its contract: the tests so far, and those to come, are all of them. Assumes nothing.
 use mathlib.Core.Path.{refl, sym, ◌∙◌}
-use Prim.Native.Nat.{◌-◌}
 use native.Mathlib.Omega.{arith}
-use Rattle.store.specs.Account.{apart}
 use Rattle.store.proofs.PlacesLaws.{apart_more, apart-done}
 use Rattle.store.proofs.account.are_ids_apart.Goals as goal
 

@@ -1,8 +1,6 @@
 -- `store::account::are_records_ok` meets its contract: the tests so far, and those to come, are all of them. Assumes nothing.
 use mathlib.Core.Path.{refl, sym, ◌∙◌}
-use Prim.Native.Nat.{◌-◌}
 use native.Mathlib.Omega.{arith}
-use Rattle.octets.specs.Stretch.{every}
 use Rattle.octets.proofs.LentLaws.{held}
 use Rattle.records.specs.Record.{record_ok}
 use Rattle.store.proofs.PlacesLaws.{every_more, every-done}

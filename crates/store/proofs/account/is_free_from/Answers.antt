@@ -1,8 +1,6 @@
 -- `store::account::is_free_from` meets its contract: the tests so far, and those to come, are all of them. Assumes nothing.
 use mathlib.Core.Path.{refl, sym, ◌∙◌}
-use Prim.Native.Nat.{◌-◌}
 use native.Mathlib.Omega.{arith}
-use Rattle.octets.specs.Stretch.{every}
 use Rattle.octets.proofs.LentLaws.{held}
 use Rattle.store.specs.Account.{other_id}
 use Rattle.store.proofs.PlacesLaws.{every_more, every-done}

@@ -1,10 +1,9 @@
 -- `store::search::find_named` meets its contract: the best so far, carried over the records to come, is the best of all. Assumes nothing.
 use mathlib.Core.Path.{sym, ap, ◌∙◌, subst}
-use Prim.Native.Nat.{◌-◌}
 use native.Mathlib.Omega.{arith}
 use Rattle.octets.proofs.LentLaws.{held}
 use Rattle.records.specs.Book.{named}
-use Rattle.store.specs.Places.{Below, over, none, keep, found_of, lowest}
+use Rattle.store.specs.Places.{Below, keep, found_of, lowest}
 use Rattle.store.proofs.PlacesLaws.{over-next, over_last, lowest-below}
 use Rattle.store.proofs.search.find_named.Goals as goal
 

@@ -1,10 +1,9 @@
 -- `store::search::find_owed` meets its contract: the best so far, carried over the places to come, is the best of all. Assumes nothing.
 use mathlib.Core.Path.{sym, ap, ◌∙◌, subst}
-use Prim.Native.Nat.{◌-◌}
 use native.Mathlib.Omega.{arith}
 use Rattle.octets.proofs.LentLaws.{held}
 use Rattle.records.specs.Layout.{id_of}
-use Rattle.store.specs.Places.{OnePlace, over, none, keep, found_of, lowest}
+use Rattle.store.specs.Places.{OnePlace, keep, found_of, lowest}
 use Rattle.store.specs.Search.{owed}
 use Rattle.store.proofs.PlacesLaws.{over-next, over_last, lowest-below}
 use Rattle.store.proofs.search.find_owed.Goals as goal

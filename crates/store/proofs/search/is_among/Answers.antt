@@ -1,8 +1,6 @@
 -- `store::search::is_among` meets its contract: what is found so far, or among those to come, is found among all. Assumes nothing.
 use mathlib.Core.Path.{refl, sym, ◌∙◌}
-use Prim.Native.Nat.{◌-◌}
 use native.Mathlib.Omega.{arith}
-use Rattle.octets.specs.Stretch.{among}
 use Rattle.octets.proofs.StretchLaws.{among-turn, among-end}
 use Rattle.store.proofs.search.is_among.Goals as goal
 

@@ -1,9 +1,8 @@
 -- `store::search::lowest_of` meets its contract: the best so far, carried over the places to come, is the best of all. Assumes nothing.
 use mathlib.Core.Path.{sym, ap, ◌∙◌, subst}
-use Prim.Native.Nat.{◌-◌}
 use native.Mathlib.Omega.{arith}
 use Rattle.octets.proofs.LentLaws.{held}
-use Rattle.store.specs.Places.{OnePlace, over, none, keep, found_of, lowest}
+use Rattle.store.specs.Places.{OnePlace, keep, found_of, lowest}
 use Rattle.store.specs.Search.{passes, rank_of}
 use Rattle.store.proofs.PlacesLaws.{over-next, over_last, lowest-below}
 use Rattle.store.proofs.search.lowest_of.Goals as goal
