@@ -98,15 +98,30 @@ const BOOK_READ: usize = book::SIZE + 1;
 
 const BOOK_NAME: &str = "accounts.bin";
 
+// What the system says of an error, without its number for it.
+fn without_number(said: &str) -> &str {
+    match said.split_once(" (os error ") {
+        Some((words, _)) => words,
+        None => said,
+    }
+}
+
+// Tells on standard error why the book can't be read.
+fn fail(rt: &HostRuntime, error: &io::Error) -> io::Result<()> {
+    let said = format!(in rt.alloc(); "{error}")?;
+    let words = without_number(said.as_str());
+    eprintln!(rt; "{BOOK_NAME}: {words}")
+}
+
 fn main(rt: HostRuntime) -> io::Result<()> {
     let mut file = match File::open(&rt, BOOK_NAME) {
         Ok(file) => file,
-        Err(error) => return eprintln!(rt; "{BOOK_NAME}: {error}"),
+        Err(error) => return fail(&rt, &error),
     };
     let mut octets = [0u8; BOOK_READ];
     let read = read_book(&mut file, &mut octets);
     if let Some(error) = read.failed {
-        return eprintln!(rt; "{BOOK_NAME}: {error}");
+        return fail(&rt, &error);
     }
     let n = read.count;
     let mut table = [0u8; layout::TABLE_SIZE];
