@@ -1,4 +1,5 @@
 -- `bound::command` meets its contract. Assumes nothing.
+use native.Mathlib.Omega.{arith}
 use mathlib.Core.Path.{ap}
 use Rattle.octets.specs.Choice.{if◌then◌else◌}
 use Rattle.octets.proofs.StretchLaws.{drop-cut}
@@ -43,8 +44,8 @@ returns-in-21 c = rw (← c.read_header-header.ensures, c.in-21.is, ← (rw (dro
 
 pub returns-in_default : goal.returns-in_default
 unfolding replying
-returns-in_default c = rw (← c.read_header-header.ensures, unknown-command _ c.in_default.if-id-lt2147483648-own.true c.in_default.in_default-own.rest.0.0.0.0.0.0.0.1 c.in_default.in_default-own.rest.0.0.0.0.0.0.1 c.in_default.in_default-own.rest.0.0.0.0.0.1 c.in_default.in_default-own.rest.0.0.0.0.1 c.in_default.in_default-own.rest.0.0.0.1 c.in_default.in_default-own.rest.0.0.1 c.in_default.in_default-own.rest.0.1 c.in_default.in_default-own.rest.1, ← c.unknown.ensures, c.spoken-in_default.ensures)
+returns-in_default c = rw (← c.read_header-header.ensures, unknown-command c.read_header-header.result.command (omega arith) (omega arith) (omega arith) (omega arith) (omega arith) (omega arith) (omega arith) (omega arith) (omega arith), ← c.unknown.ensures, c.spoken-in_default.ensures)
 
 pub returns-in-2147483648-to-4294967295 : goal.returns-in-2147483648-to-4294967295
 unfolding replying
-returns-in-2147483648-to-4294967295 c = rw (← c.read_header-header.ensures, response-command _ c.in-2147483648-to-4294967295.if-id-lt2147483648-own.false, c.spoken-in-2147483648-to-4294967295.ensures)
+returns-in-2147483648-to-4294967295 c = rw (← c.read_header-header.ensures, response-command c.read_header-header.result.command (omega arith), c.spoken-in-2147483648-to-4294967295.ensures)

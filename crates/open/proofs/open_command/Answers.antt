@@ -1,4 +1,5 @@
 -- `open::open_command` meets its contract. Assumes nothing.
+use native.Mathlib.Omega.{arith}
 use Rattle.octets.specs.Choice.{if◌then◌else◌}
 use Rattle.wire.specs.Command.{command_of}
 use Rattle.wire.proofs.CommandLaws.{response-command, unknown-command}
@@ -37,7 +38,7 @@ unfolding command_of if◌then◌else◌
 returns-in-21 c = rw (c.in-21.is, ← c.read_plain.ensures, ← c.link.ensures, c.stay-in-21.ensures)
 
 pub returns-in_default : goal.returns-in_default
-returns-in_default c = rw (unknown-command _ c.in_default.if-command-lt2147483648-own.true c.in_default.in_default-own.rest.0.0.0.0.0.0.0.1 c.in_default.in_default-own.rest.0.0.0.0.0.0.1 c.in_default.in_default-own.rest.0.0.0.0.0.1 c.in_default.in_default-own.rest.0.0.0.0.1 c.in_default.in_default-own.rest.0.0.0.1 c.in_default.in_default-own.rest.0.0.1 c.in_default.in_default-own.rest.0.1 c.in_default.in_default-own.rest.1, ← c.unknown.ensures, c.stay-in_default.ensures)
+returns-in_default c = rw (unknown-command c.args.command (omega arith) (omega arith) (omega arith) (omega arith) (omega arith) (omega arith) (omega arith) (omega arith) (omega arith), ← c.unknown.ensures, c.stay-in_default.ensures)
 
 pub returns-in-2147483648-to-4294967295 : goal.returns-in-2147483648-to-4294967295
-returns-in-2147483648-to-4294967295 c = rw (response-command _ c.in-2147483648-to-4294967295.if-command-lt2147483648-own.false, c.stay-in-2147483648-to-4294967295.ensures)
+returns-in-2147483648-to-4294967295 c = rw (response-command c.args.command (omega arith), c.stay-in-2147483648-to-4294967295.ensures)

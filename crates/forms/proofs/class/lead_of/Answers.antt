@@ -8,9 +8,6 @@ use Rattle.forms.proofs.class.lead_of.Goals as goal
 pub loop-i-init : goal.loop-i-init
 loop-i-init c = (omega arith, lead-start (in_class c.args.class) c.args.s.now)
 
-pub bounds-s-i : goal.bounds-s-i
-bounds-s-i c = omega arith
-
 pub returns-then-not-in_class : goal.returns-then-not-in_class
 returns-then-not-in_class c = (sym (c.loop-i.invariant.1 ∙ lead-stops (in_class c.args.class) c.args.s.now c.loop-i.i c.loop-i-test.true (sym c.in_class.ensures ∙ c.if-not-in_class.true)), omega arith)
 

@@ -1,4 +1,5 @@
 -- `inverook::flat::entry_of` meets its contract. Assumes nothing.
+use native.Mathlib.Omega.{arith}
 use borrow.Author.Tests.{ne_eqb}
 use Rattle.octets.specs.Choice.{if◌then◌else◌}
 use Rattle.inverook.specs.Flat.{entry_of}
@@ -22,4 +23,4 @@ returns-in-3 c = simp c.in-3.is
 
 pub returns-in_default : goal.returns-in_default
 unfolding if◌then◌else◌ entry_of
-returns-in_default c = simp (ne_eqb _ _ c.in_default.in_default-own.rest.0.0.0.1, ne_eqb _ _ c.in_default.in_default-own.rest.0.0.1, ne_eqb _ _ c.in_default.in_default-own.rest.0.1, ne_eqb _ _ c.in_default.in_default-own.rest.1)
+returns-in_default c = simp (ne_eqb c.args.kind 0 (omega arith), ne_eqb c.args.kind 1 (omega arith), ne_eqb c.args.kind 2 (omega arith), ne_eqb c.args.kind 3 (omega arith))

@@ -1,4 +1,6 @@
 -- `lines::record::order_of` meets its contract. Assumes nothing.
+use native.Mathlib.Omega.{arith}
+use lib.ListN.{get_or}
 use borrow.Author.Tests.{eq-eqb, ne_eqb, le-leb, lt-leb}
 use Rattle.octets.specs.Choice.{if◌then◌else◌}
 use Rattle.lines.specs.Record.{order_of}
@@ -34,4 +36,6 @@ returns-else-length-eq7 c = (simp (eq-eqb _ _ c.if-asked-ne-SIZE.false, c.in-3.i
 
 pub returns-in_default : goal.returns-in_default
 unfolding order_of if◌then◌else◌
-returns-in_default c = (simp (eq-eqb _ _ c.if-asked-ne-SIZE.false, ne_eqb _ _ c.in_default.in_default-own.rest.0.0.0.1, ne_eqb _ _ c.in_default.in_default-own.rest.0.0.1, ne_eqb _ _ c.in_default.in_default-own.rest.0.1, ne_eqb _ _ c.in_default.in_default-own.rest.1), tt)
+returns-in_default c =
+    let kind = get_or c.args.asked.now 0 0 in
+    (simp (eq-eqb _ _ c.if-asked-ne-SIZE.false, ne_eqb kind 0 (omega arith), ne_eqb kind 1 (omega arith), ne_eqb kind 2 (omega arith), ne_eqb kind 3 (omega arith)), tt)
