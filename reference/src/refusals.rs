@@ -4,6 +4,10 @@
 //! several functions, one refusal could hide that another was accepted; and an error can say
 //! no more than that a proof doesn't fit the changed code. So each changed function is held
 //! to errors of its own, and those to be about facts.
+//!
+//! The prover needn't try a function's goals while one that it calls is not proved. What an edit
+//! says of such a function is read from a log of its own too, of a check in which nothing but
+//! that function is changed.
 
 use std::collections::{BTreeMap, BTreeSet};
 use std::ops::Range;
@@ -61,8 +65,18 @@ impl Function {
         format!("{krate}::{}", self.0.join("::"))
     }
 
-    fn proof(&self) -> String {
-        format!("proofs/{}/Proof.antt", self.0.join("/"))
+    /// As the name of a log of its own has it: `module.Type.name`.
+    pub fn dotted_name(&self) -> String {
+        self.0.join(".")
+    }
+
+    /// Whether the file answers a goal of the function, or says an invariant or a measure.
+    fn has(&self, file: &str) -> bool {
+        let inside = file.strip_prefix("proofs/").unwrap_or("");
+        let folder = inside
+            .strip_suffix("/Answers.antt")
+            .or_else(|| inside.strip_suffix("/Invariants.antt"));
+        folder == Some(self.0.join("/").as_str())
     }
 }
 
@@ -81,7 +95,9 @@ impl Declared {
         lines.any(|line| {
             let text = line.trim_start();
             let is_contract = text.starts_with("requires ") || text.starts_with("ensures ");
-            is_contract && uses(text, definition)
+            // What stands before the brace is the clause's own name.
+            let clause = text.split_once('{').map_or("", |(_, clause)| clause);
+            is_contract && uses(clause, definition)
         })
     }
 }
@@ -218,6 +234,8 @@ pub enum Touch {
     Code(Vec<Function>),
     /// A definition, and the functions whose contracts name it.
     Definition(Vec<Function>),
+    /// No more than a name that is brought in for another change.
+    Import,
 }
 
 /// What the log says of an edit.
@@ -237,7 +255,7 @@ pub fn verdict(touches: &[Touch], laws: &[&str], log: &Log) -> Verdict {
     let mut changes: BTreeMap<&Function, usize> = BTreeMap::new();
     for touch in touches {
         let functions = touch.functions(log);
-        if functions.is_empty() && !touch.is_of_laws() {
+        if functions.is_empty() && matches!(touch, Touch::Definition(_)) && !touch.is_of_laws() {
             faults.push("a definition: no fact".to_string());
         }
         for function in functions {
@@ -268,6 +286,30 @@ fn laws_left(touches: &[Touch], laws: &[&str], log: &Log) -> Vec<String> {
     faults
 }
 
+/// The changed functions of which the log needn't tell all that refuses them, each with the
+/// pairs of the edit, from 0 on, that a log of its own is made with: those that touch it, and
+/// those that bring in a name. None where that would be the whole edit again.
+pub fn wanted(touches: &[Touch], log: &Log) -> Vec<(Function, Vec<usize>)> {
+    let mut touching: BTreeMap<&Function, Vec<usize>> = BTreeMap::new();
+    for (pair, touch) in touches.iter().enumerate() {
+        if let Touch::Code(functions) | Touch::Definition(functions) = touch {
+            for function in functions {
+                touching.entry(function).or_default().push(pair);
+            }
+        }
+    }
+    touching.retain(|function, pairs| log.waits(function, pairs.len()));
+    let with_imports = touching.into_iter().map(|(function, touching)| {
+        let is_for =
+            |pair: &usize| touching.contains(pair) || matches!(touches[*pair], Touch::Import);
+        let pairs = (0..touches.len()).filter(is_for).collect();
+        (function.clone(), pairs)
+    });
+    with_imports
+        .filter(|(_, pairs): &(_, Vec<usize>)| pairs.len() < touches.len())
+        .collect()
+}
+
 impl Touch {
     /// The functions that are held to it. Of those whose contracts name a definition, some can
     /// be right by the changed one too.
@@ -278,6 +320,7 @@ impl Touch {
                 .iter()
                 .filter(|function| !log.refusal_of(function).is_empty())
                 .collect(),
+            Touch::Import => Vec::new(),
         }
     }
 
@@ -326,8 +369,9 @@ pub fn short(krate: &str, all: &[Declared], refused: &BTreeMap<Function, usize>)
 /// What the prover said of one wrong program.
 pub struct Log<'a> {
     pub krate: &'a str,
-    pub label: &'a str,
     pub text: &'a str,
+    /// What it said of functions where nothing else of the program was wrong.
+    pub own: BTreeMap<Function, String>,
 }
 
 /// What refuses a function.
@@ -348,51 +392,106 @@ impl Refusal {
 impl Log<'_> {
     /// What refuses the function by itself, so no error that follows from another's refusal.
     pub fn refusal_of(&self, function: &Function) -> Refusal {
-        let proof = function.proof();
+        let own = self.own.get(function).map(String::as_str);
         let mut refusal = Refusal::default();
-        for error in self.errors().iter().filter(|error| error.file == proof) {
-            match error.fact() {
-                Some(need) => refusal.facts.extend([need.to_string()]),
-                None => refusal.misfits.push(error.message.clone()),
+        for text in [Some(self.text), own].into_iter().flatten() {
+            let errors = errors_in(text).into_iter();
+            for error in errors.filter(|e| function.has(e.file) && !e.follows()) {
+                match error.fact() {
+                    Some(goal) => refusal.facts.extend([goal.to_string()]),
+                    None => refusal.misfits.push(error.message),
+                }
             }
+            let name = function.full_name(self.krate);
+            refusal.facts.extend(left_open(text, &name));
         }
-        refusal.facts.extend(self.left_open(function));
         refusal
     }
 
     /// Whether the law is refused by itself, and as a fact.
     fn refuses_law(&self, law: &str) -> bool {
-        self.errors().iter().any(|error| error.fact() == Some(law))
-    }
-
-    /// Of a function without a proof of its own, what the prover's search leaves open.
-    fn left_open(&self, function: &Function) -> Vec<String> {
-        let unproved = format!("fn {}: no proof", function.full_name(self.krate));
-        let told = self.text.lines().find_map(|line| {
-            let rest = line.strip_prefix(&unproved)?;
-            let (_, open) = rest.split_once("`search` does not close ")?;
-            open.split(';').next()
-        });
-        let names = told.into_iter().flat_map(|open| open.split('`'));
-        names.skip(1).step_by(2).map(str::to_string).collect()
-    }
-
-    fn errors(&self) -> Vec<Error<'_>> {
-        let folder = format!("must-fail/{}/{}/", self.krate, self.label);
-        let mut errors: Vec<Error> = Vec::new();
-        let mut goes_on = false;
-        for line in self.text.lines() {
-            if goes_on && line.starts_with("  ") {
-                errors.last_mut().into_iter().for_each(|e| e.go_on(line));
-                continue;
-            }
-            let error = Error::read(line, &folder);
-            goes_on = error.is_some();
-            errors.extend(error);
-        }
-        errors.retain(|error| !error.message.contains("was not admitted ("));
+        let errors = errors_in(self.text).into_iter();
         errors
+            .filter(|error| !error.follows())
+            .any(|error| error.fact() == Some(law))
     }
+
+    /// Whether fewer facts than the edit's changes refuse the function, and others may be left
+    /// that the prover tries only once another function or a lemma is proved.
+    fn waits(&self, function: &Function, changes: usize) -> bool {
+        let Refusal { facts, misfits } = self.refusal_of(function);
+        let name = function.full_name(self.krate);
+        let untried = format!("`search` has not tried the goals of `{name}`,");
+        let verdict = format!("fn {name}: ");
+        let waits_for_a_callee = lines(self.text).any(|line| {
+            let calls = [", which is not proved", ", which are not proved"];
+            let calls = calls.iter().any(|words| line.contains(words));
+            line.contains(&untried) || facts.is_empty() && calls && line.starts_with(&verdict)
+        });
+        let waits_for_a_lemma = || {
+            let errors = errors_in(self.text).into_iter();
+            errors
+                .filter(|error| function.has(error.file))
+                .any(|error| error.follows())
+        };
+        let may_be_more = facts.len() < changes && misfits.is_empty();
+        may_be_more && (waits_for_a_callee || waits_for_a_lemma())
+    }
+}
+
+/// The lines of a log. What is said before a long check ends stands behind words of its own,
+/// and is said again at the end.
+fn lines(text: &str) -> impl Iterator<Item = &str> {
+    text.lines()
+        .map(|line| line.strip_prefix("so far: ").unwrap_or(line))
+}
+
+/// The goals of a function that have no answer, and that the prover's search leaves open. They
+/// stand in the function's line and in the notes above it; where an answer is refused, in the
+/// notes alone.
+fn left_open(text: &str, name: &str) -> Vec<String> {
+    let verdict = format!("fn {name}: ");
+    let mut open: Vec<&str> = Vec::new();
+    let mut noted = Vec::new();
+    for line in lines(text) {
+        if let Some(told) = line.strip_prefix(&verdict) {
+            open.append(&mut noted);
+            let goals = told.split_once("`search` did not prove ");
+            let goals = goals.and_then(|(_, goals)| goals.split(';').next());
+            open.extend(goals.unwrap_or("").split('`').skip(1).step_by(2));
+        }
+        match ["note: ", "help: ", "  "]
+            .iter()
+            .any(|words| line.starts_with(words))
+        {
+            true => noted.extend(noted_goal(line)),
+            false => noted.clear(),
+        }
+    }
+    open.into_iter().map(str::to_string).collect()
+}
+
+/// The goal of the function below that a note says is not proved.
+fn noted_goal(line: &str) -> Option<&str> {
+    let (place, told) = line.split_once(": it is not proved that ")?;
+    let (_, goal) = told.rsplit_once("(`")?;
+    let (goal, _) = goal.split_once("`)")?;
+    place.starts_with("note: src/").then_some(goal)
+}
+
+fn errors_in(text: &str) -> Vec<Error<'_>> {
+    let mut errors: Vec<Error> = Vec::new();
+    let mut goes_on = false;
+    for line in lines(text) {
+        if goes_on && line.starts_with("  ") {
+            errors.last_mut().into_iter().for_each(|e| e.go_on(line));
+            continue;
+        }
+        let error = Error::read(line);
+        goes_on = error.is_some();
+        errors.extend(error);
+    }
+    errors
 }
 
 /// An error of the prover: where it stands, in which declaration if in any, and what it says.
@@ -405,18 +504,16 @@ struct Error<'a> {
 impl<'a> Error<'a> {
     /// The error that a line starts with. Notes and summaries name files too, but behind words
     /// of their own.
-    fn read(line: &'a str, folder: &str) -> Option<Error<'a>> {
-        let (before, after) = line.split_once(folder)?;
-        let starts_line = before.is_empty() || (before.ends_with('/') && !before.contains(": "));
-        let (place, message) = after.split_once(": error: ")?;
-        let mut place = place.split(':');
+    fn read(line: &'a str) -> Option<Error<'a>> {
+        let (place, message) = line.split_once(": error: ")?;
+        let mut place = place.strip_prefix("./").unwrap_or(place).split(':');
         let file = place.next()?;
         let placed = place.all(|number| number.parse::<usize>().is_ok());
         let declaration = message
             .strip_prefix('`')
             .and_then(|said| said.split_once("`: "))
             .map(|(name, _)| name);
-        (starts_line && placed).then(|| Error {
+        placed.then(|| Error {
             file,
             declaration,
             message: message.to_string(),
@@ -428,25 +525,46 @@ impl<'a> Error<'a> {
         self.message.push_str(line);
     }
 
+    /// Whether it only says that something else is refused.
+    fn follows(&self) -> bool {
+        let follows = ["was not admitted", "not checked: "];
+        follows.iter().any(|words| self.message.contains(words))
+    }
+
     /// The declaration whose fact it refuses: none where it says no more than that the proof
-    /// was written for other code. A proof's last declaration only puts the others together,
-    /// so an error there refuses no fact.
+    /// was written for other code. An invariant is a statement, so an error there refuses no
+    /// fact.
     fn fact(&self) -> Option<&'a str> {
-        let is_misfit = MISFITS.iter().any(|words| self.message.contains(words));
-        self.declaration
-            .filter(|name| !is_misfit && !name.ends_with("-spec"))
+        let is_misfit = self.file.ends_with("/Invariants.antt") || self.is_misfit();
+        self.declaration.filter(|_| !is_misfit)
+    }
+
+    fn is_misfit(&self) -> bool {
+        let said = self.message.replace(ONLY_SHOWN, "");
+        let mut expected = said
+            .split("expected type `")
+            .skip(1)
+            .flat_map(|types| types.split('`').next());
+        MISFITS.iter().any(|words| said.contains(words))
+            || expected.any(|wants| ANY_TEST.iter().any(|words| wants.contains(words)))
     }
 }
 
-/// What the prover says where a proof speaks of calls, tests or needs that the changed code
+/// What the prover says where a proof speaks of calls, tests or goals that the changed code
 /// doesn't have.
-const MISFITS: [&str; 5] = [
+const MISFITS: [&str; 4] = [
     "that can be named from here",
     "has no field `",
-    "neither the goal nor the list settles argument",
-    ".result) (?",
-    " c) → Prim.⊥`",
+    "is not in scope",
+    "the list settles argument",
 ];
+
+/// What it says of a name in a type that it shows.
+const ONLY_SHOWN: &str = "is not in scope here, so what is shown";
+
+/// How the type of a test starts or ends that a proof asks for, of a call's result or of
+/// whatever values, where the changed code tests in another way.
+const ANY_TEST: [&str; 2] = [".result (?", " c) (?"];
 
 #[cfg(test)]
 mod tests {
@@ -457,7 +575,7 @@ pub const MOST: u32 = 512;
 
 impl Place {
     pub fn none() -> Place
-        ensures { λ r. ⌜ r ≡ none ⌝ }
+        ensures { result ≡ none }
     {
         Place { at: 0 }
     }
@@ -465,18 +583,22 @@ impl Place {
 
 // One that MOST does not bound.
 fn first(s: &[u8]) -> u8
-    ensures { λ r. ⌜ r ≡ head s ⌝ }
+    ensures { result ≡ head s }
 {
     s[0]
 }
 
 const ALMOST: u32 = 511;
 
-pub fn pick<'a>(n: u32, s: &'a [u8]) -> &'a [u8] {
+pub fn pick<'a, T: Copy>(n: u32, s: &'a [T]) -> &'a [T] {
     if MOST < n { &s[1..] } else { s }
 }
 
-pub extern \"C\" fn last(n: u32) -> bool {
+#[unsafe(no_mangle)]
+pub extern \"C\" fn last(n: u32) -> bool
+    requires Good { 0 < n }
+    ensures head { result ≡ n == most }
+{
     n == MOST - 1
 }
 
@@ -488,7 +610,7 @@ use lib.Dec.{eqb}
 
 -- the first one
 abbrev pub head : List ℕ → ℕ
-head s = getD s 0 0
+head s = get_or s 0 0
 
 pub record Good (r : List ℕ) : Type 0 where
   pub size : length r ≡ 4
@@ -567,7 +689,7 @@ pub record Good (r : List ℕ) : Type 0 where
     #[test]
     fn a_definition_is_found_around_its_text_and_cited_by_contracts() {
         let around = |old| definition_around(SPEC, old).unwrap();
-        assert_eq!(around("getD s 0 0").as_deref(), Some("head"));
+        assert_eq!(around("get_or s 0 0").as_deref(), Some("head"));
         assert_eq!(around("length r ≡ 4").as_deref(), Some("Good"));
         assert_eq!(around("{eqb}"), None);
         let cited = |definition| -> Vec<String> {
@@ -577,16 +699,18 @@ pub record Good (r : List ℕ) : Type 0 where
                 .collect()
         };
         assert_eq!(cited("head"), ["wire::first"]);
+        assert_eq!(cited("most"), ["wire::last"]);
         assert!(cited("Place").is_empty());
+        assert!(cited("Good").is_empty());
     }
 
-    const PROOF: &str = "/r/target/must-fail/wire/wrong/proofs/a/Place/none/Proof.antt";
+    const PROOF: &str = "./proofs/a/Place/none/Answers.antt";
 
     fn log(text: &str) -> Log<'_> {
         Log {
             krate: "wire",
-            label: "wrong",
             text,
+            own: BTreeMap::new(),
         }
     }
 
@@ -605,18 +729,23 @@ pub record Good (r : List ℕ) : Type 0 where
         let line = |said: &str| format!("other\n{PROOF}:12:3: {said}\n");
         let differ = line("error: `returns`: as printed, the two types differ");
         assert_eq!(facts(&differ), ["returns"]);
+        assert_eq!(facts(&differ.replace("./", "so far: ./")), ["returns"]);
         let twice = line("error: `returns-2`: x") + &differ + &differ;
         assert_eq!(facts(&twice), ["returns", "returns-2"]);
         assert!(refusal(&line("note: `rw` rewrote the goal: error")).is_empty());
         assert!(refusal(&format!("note: said at {PROOF}:1:2: error: `x`: y")).is_empty());
         assert!(refusal(&differ.replace("Place/none", "Place/none2")).is_empty());
         assert!(refusal(&differ.replace("a/Place", "b/Place")).is_empty());
+        assert!(refusal(&differ.replace("none/Answers", "Laws")).is_empty());
     }
 
     #[test]
     fn what_follows_from_another_refusal_is_no_error() {
-        let said = "`none-spec`: `close` was not admitted (it has holes), so";
-        assert!(refusal(&format!("{PROOF}:5:5: error: {said}\n")).is_empty());
+        for why in ["rejected", "not admitted"] {
+            let said = format!("1 declaration that depends on `laws`, which was {why}, was");
+            let line = format!("{PROOF}:5:5: error: {said} not checked: returns\n");
+            assert!(refusal(&line).is_empty());
+        }
     }
 
     fn is_misfit(said: &str) -> bool {
@@ -627,17 +756,17 @@ pub record Good (r : List ℕ) : Type 0 where
     #[test]
     fn a_module_without_the_name_is_a_misfit() {
         assert!(is_misfit(
-            "module `proofs.correct` has no `Tie` that can be named from here"
+            "module `Rattle.wire.specs` has no `Tie` that can be named from here"
         ));
         assert!(is_misfit(
-            "`sub-put`: `tie.Need-sub-put`: module `proofs.a.Tie` has no `Need-sub-put` that can be named from here"
+            "`returns-then-gone`: `goal.returns-then-gone`: module `Rattle.wire.proofs.a.Goals` has no `returns-then-gone` that can be named from here (names in it that begin alike: `returns`)"
         ));
     }
 
     #[test]
     fn a_record_without_the_field_is_a_misfit() {
         assert!(is_misfit(
-            "`returns`: record `Lts.After-is-none2` has no field `is-none`"
+            "`returns`: record `Lts.After-is_none2` has no field `is_none` — the fields that can be named here are `args`"
         ));
         assert!(is_misfit(
             "`returns`: record `Lts.After-known`\n  has no field `before`"
@@ -654,31 +783,46 @@ pub record Good (r : List ℕ) : Type 0 where
     #[test]
     fn a_test_of_something_else_than_a_call_gave_is_a_misfit() {
         assert!(is_misfit(
-            "`returns`: as printed, the two types first differ where one has `c` (expected)\n  expected type `_≡_ (c .before .is-none .result) (?3 c)`, but this has type `_≡_ (borrow.Table.Row.get 5 locals) true`"
+            "`returns`: as printed, the two types first differ where one has `c` (expected)\n  expected type `mathlib.Core.Path.◌≡◌ c.is_none-x.result (?3 c)`\n  but this has type `lib.Dec.leb 5 c.args.x ≡ mathlib.Core.Bool.true`"
         ));
     }
 
     #[test]
     fn a_test_for_the_opposite_is_a_misfit() {
         assert!(is_misfit(
-            "`returns-3`: expected type `_≡_ {A = ℕ} (?0 c) (?1 c) → Prim.⊥`\n  but this has type `_≡_ (borrow.Table.Row.get 2 locals) 0`"
+            "`returns-then-b`: expected type `Prim.Native.Nat.◌≤◌ (?0 c) (?1 c)`, but this has type `c.args.b ≡ mathlib.Core.Bool.true`"
         ));
     }
 
     #[test]
     fn an_error_in_the_whole_of_a_proof_is_a_misfit() {
         assert!(is_misfit(
-            "`none-spec`: expected type `tie.Need-returns`, but this has type `tie.Need-put-requires`"
+            "this file was not checked, because antt could not settle which modules it needs"
         ));
+    }
+
+    #[test]
+    fn an_error_in_an_invariant_is_a_misfit() {
+        let said = format!("{PROOF}:6:2: error: `invariant-loop-i`: differ\n");
+        let Refusal { facts, misfits } = refusal(&said.replace("Answers", "Invariants"));
+        assert!(facts.is_empty() && misfits.len() == 1);
+    }
+
+    #[test]
+    fn a_name_that_only_a_shown_type_has_makes_no_misfit() {
+        let said = "error: `returns`: differ\n  (`m` is not in scope here, so what is shown does not paste back as it stands)";
+        assert_eq!(facts(&format!("{PROOF}:6:2: {said}\n")), ["returns"]);
+        let found = "error: `returns`: expected type `one ≡ two`, but this has type `leb (?0 c) (?1 c) ≡ true`";
+        assert_eq!(facts(&format!("{PROOF}:6:2: {found}\n")), ["returns"]);
     }
 
     #[test]
     fn a_search_leaves_facts_open() {
         let line = |name: &str, why: &str| {
-            format!("fn {name}: no proof: expected `none-spec` in a/Proof.antt; {why}\n")
+            format!("fn {name}: no proof: expected answers in {PROOF}; {why}\n")
         };
         let open =
-            "`search` does not close `returns`, `returns-2`; it calls `b`, which is not proved";
+            "`search` did not prove `returns`, `returns-2`; it calls `b`, which is not proved";
         let both = ["returns", "returns-2"];
         assert_eq!(facts(&line("wire::a::Place::none", open)), both);
         assert!(refusal(&line("wire::a::Place::nones", open)).is_empty());
@@ -686,8 +830,19 @@ pub record Good (r : List ℕ) : Type 0 where
         assert!(refusal(&line("wire::a::Place::none", calls)).is_empty());
     }
 
+    #[test]
+    fn beside_a_refused_answer_the_notes_tell_what_is_open() {
+        let note = |goal: &str| {
+            format!("note: src/a.rt:5:1: it is not proved that the sum fits (at `..=n`) (`{goal}`); the facts allow\n")
+        };
+        let other = note("x") + "fn wire::a::other: not proved\n";
+        let told = note("returns") + "help: a bound\n" + &note("add-y");
+        let told = other + &told + "fn wire::a::Place::none: not proved\n";
+        assert_eq!(facts(&told), ["add-y", "returns"]);
+    }
+
     fn error_of(path: &str, need: &str) -> String {
-        format!("/r/must-fail/wire/wrong/proofs/{path}/Proof.antt:1:1: error: `{need}`: differ\n")
+        format!("./proofs/{path}/Answers.antt:1:1: error: `{need}`: differ\n")
     }
 
     fn code(path: &str) -> Touch {
@@ -725,6 +880,56 @@ pub record Good (r : List ℕ) : Type 0 where
         assert!(faults[0].starts_with("wire::first: a misfit"));
     }
 
+    /// The functions that want a log of their own, and with which pairs.
+    fn wanting(touches: &[Touch], text: &str) -> Vec<(String, Vec<usize>)> {
+        let wanted = wanted(touches, &log(text)).into_iter();
+        wanted
+            .map(|(function, pairs)| (function.dotted_name(), pairs))
+            .collect()
+    }
+
+    #[test]
+    fn a_function_that_waits_wants_a_log_of_its_own() {
+        let last = Touch::Code(vec![function("Place::last")]);
+        let all = [code("first"), Touch::Import, last, code("first")];
+        let own = |name: &str, pairs: &[usize]| vec![(name.to_string(), pairs.to_vec())];
+        let line = "fn wire::Place::last: no proof: it calls `wire::first`, which is not proved\n";
+        assert_eq!(wanting(&all, line), own("Place.last", &[1, 2]));
+        assert!(wanting(&all, &(error_of("Place/last", "returns") + line)).is_empty());
+        let misfit = error_of("Place/last", "returns").replace("differ", "has no field `x`");
+        assert!(wanting(&all, &(misfit + line)).is_empty());
+        let proved = "fn wire::Place::last: proved\n";
+        assert!(wanting(&all, proved).is_empty());
+        assert!(wanting(&all[1..3], line).is_empty());
+
+        let untried = "note: `search` has not tried the goals of `wire::first`, which wait\n";
+        let one = error_of("first", "returns") + untried;
+        assert_eq!(wanting(&all, &one), own("first", &[0, 1, 3]));
+        assert!(wanting(&all, &(one + &error_of("first", "returns-2"))).is_empty());
+        let lemma = error_of("first", "x").replace(
+            "`x`: differ",
+            "1 declaration that depends on `law`, which was rejected, was not checked: returns",
+        );
+        assert_eq!(wanting(&all, &lemma), own("first", &[0, 1, 3]));
+    }
+
+    #[test]
+    fn a_log_of_its_own_tells_what_refuses_a_function() {
+        let text = error_of("first", "returns");
+        let judged = |own: &str| {
+            let own = BTreeMap::from([(function("last"), own.to_string())]);
+            let log = Log { own, ..log(&text) };
+            verdict(&[code("first"), code("last")], &[], &log)
+        };
+        let told = error_of("last", "returns") + &error_of("first", "loop-i");
+        let Verdict { refused, faults } = judged(&told);
+        assert_eq!(refused.len(), 2);
+        assert!(faults.is_empty());
+        assert_eq!(judged("fn wire::last: proved\n").faults.len(), 1);
+        let misfit = told.replace("differ", "has no field `x`");
+        assert!(judged(&misfit).faults[0].starts_with("wire::last: a misfit"));
+    }
+
     #[test]
     fn a_changed_definition_counts_for_the_functions_that_it_refuses() {
         let text = error_of("first", "returns");
@@ -742,7 +947,7 @@ pub record Good (r : List ℕ) : Type 0 where
             let alone = [Touch::Definition(Vec::new())];
             verdict(&alone, &laws(edit), &log(text)).faults.len()
         };
-        let law = "/r/must-fail/wire/wrong/proofs/Laws.antt:1:2: error: `x`: differ\n";
+        let law = "./proofs/Laws.antt:1:2: error: `x`: differ\n";
         assert_eq!(faults("# a comment\nlaw: x\n", law), 0);
         assert_eq!(faults("law: y\n", law), 1);
         assert_eq!(faults("# law: x\n", law), 1);

@@ -2,11 +2,15 @@
 //! a fact of its own, and that each function of every crate has as many wrong answers as it is
 //! to have.
 //!
-//! `refusals [root]` runs after `rt ci` and reads the sources and edits of all crates and the
-//! logs that the run left in the repository's target folder.
+//! `refusals [root] LOGS` reads the sources and edits of all crates and what the prover said of
+//! each edit, LOGS/CRATE/LABEL.log (`tools/edit_logs.py` writes them). Of a function whose goals
+//! wait for another that the edit changes too it reads a log of its own besides,
+//! LOGS/CRATE/LABEL+FUNCTION.log. `refusals --wanted [root] LOGS` says which such logs are
+//! wanted, each on a line: CRATE LABEL FUNCTION and the numbers of the edit's pairs, from 1 on,
+//! that the log is to be made with.
 
 use reference::refusals::{
-    changes, declared, definition_around, laws, short, touched, verdict, Change, Declared,
+    changes, declared, definition_around, laws, short, touched, verdict, wanted, Change, Declared,
     Function, Log, Touch, Verdict, EXCEPTED,
 };
 use std::collections::BTreeMap;
@@ -20,26 +24,35 @@ fn main() -> ExitCode {
         Ok(false) => ExitCode::FAILURE,
         Err(error) => {
             eprintln!("refusals: {error}");
-            eprintln!("usage: refusals [root of the repository]");
+            eprintln!("usage: refusals [--wanted] [root of the repository] LOGS");
             ExitCode::FAILURE
         }
     }
 }
 
 fn run() -> Result<bool, String> {
-    let mut words = std::env::args().skip(1);
-    let root = PathBuf::from(words.next().unwrap_or(".".to_string()));
-    if let Some(word) = words.next() {
-        return Err(format!("{word} is one argument too many"));
-    }
+    let mut words: Vec<String> = std::env::args().skip(1).collect();
+    let asks = words.first().is_some_and(|word| word == "--wanted");
+    words.drain(..usize::from(asks));
+    let (root, logs) = match &words[..] {
+        [logs] => (PathBuf::from("."), PathBuf::from(logs)),
+        [root, logs] => (PathBuf::from(root), PathBuf::from(logs)),
+        _ => return Err("it takes one folder of logs, and before it at most a root".to_string()),
+    };
     let mut count = Count::default();
     for name in names_in(&root.join("crates"))? {
-        count.add(&Krate::read(&root, &name)?, &root);
+        let krate = Krate::read(&root, &name)?;
+        match asks {
+            true => count.edits += krate.ask(&logs)?,
+            false => count.add(&krate, &logs),
+        }
     }
     if count.edits == 0 {
         return Err(format!("{} has no must-fail edits", root.display()));
     }
-    println!("{count}");
+    if !asks {
+        println!("{count}");
+    }
     Ok(count.faults == 0)
 }
 
@@ -55,10 +68,10 @@ struct Count {
 }
 
 impl Count {
-    fn add(&mut self, krate: &Krate, root: &Path) {
+    fn add(&mut self, krate: &Krate, logs: &Path) {
         let mut refused: BTreeMap<Function, usize> = BTreeMap::new();
         for label in &krate.edits {
-            let found = krate.judge(root, label);
+            let found = krate.judge(logs, label);
             println!("{}/{label}: {}", krate.name, told(&found));
             self.edits += 1;
             match found {
@@ -160,30 +173,66 @@ impl Krate {
         })
     }
 
-    fn judge(&self, root: &Path, label: &str) -> Result<Verdict, String> {
-        let edit = read(&self.folder.join(format!("must-fail/{label}.edit")))?;
-        let krate = &self.name;
-        let text = read(&root.join(format!("target/must-fail/{krate}/{label}/.log")))?;
-        let mut touches = Vec::new();
-        for change in changes(&edit)? {
-            touches.extend(self.touch(&change)?);
+    fn judge(&self, logs: &Path, label: &str) -> Result<Verdict, String> {
+        let edit = self.edit(label)?;
+        let touches = self.touches(&edit)?;
+        let text = read(&self.log_file(logs, label))?;
+        let mut log = self.log(&text);
+        for (function, _) in wanted(&touches, &log) {
+            let own = read(&self.log_file(logs, &own_label(label, &function)))?;
+            log.own.insert(function, own);
         }
-        let text = &text;
-        Ok(verdict(&touches, &laws(&edit), &Log { krate, label, text }))
+        Ok(verdict(&touches, &laws(&edit), &log))
     }
 
-    /// What a change touches; nothing where it only imports a name for another change.
-    fn touch(&self, change: &Change) -> Result<Option<Touch>, String> {
+    /// Says which logs of single functions are wanted, and returns the number of edits.
+    fn ask(&self, logs: &Path) -> Result<usize, String> {
+        for label in &self.edits {
+            let touches = self.touches(&self.edit(label)?)?;
+            let text = read(&self.log_file(logs, label))?;
+            for (function, pairs) in wanted(&touches, &self.log(&text)) {
+                print!("{} {label} {}", self.name, function.dotted_name());
+                pairs.iter().for_each(|pair| print!(" {}", pair + 1));
+                println!();
+            }
+        }
+        Ok(self.edits.len())
+    }
+
+    fn edit(&self, label: &str) -> Result<String, String> {
+        read(&self.folder.join(format!("must-fail/{label}.edit")))
+    }
+
+    fn log_file(&self, logs: &Path, label: &str) -> PathBuf {
+        logs.join(&self.name).join(format!("{label}.log"))
+    }
+
+    fn log<'a>(&'a self, text: &'a str) -> Log<'a> {
+        Log {
+            krate: &self.name,
+            text,
+            own: BTreeMap::new(),
+        }
+    }
+
+    fn touches(&self, edit: &str) -> Result<Vec<Touch>, String> {
+        let changes = changes(edit)?;
+        changes.iter().map(|change| self.touch(change)).collect()
+    }
+
+    fn touch(&self, change: &Change) -> Result<Touch, String> {
         let Change { file, old } = change;
         let source = read(&self.folder.join(file))?;
         if file.starts_with("src/") {
-            return touched(file, &source, old).map(|functions| Some(Touch::Code(functions)));
+            return touched(file, &source, old).map(Touch::Code);
         }
         if !file.starts_with("specs/") {
             return Err(format!("{file} is in neither src nor specs"));
         }
-        let definition = definition_around(&source, old)?;
-        Ok(definition.map(|name| Touch::Definition(self.citing(&name))))
+        Ok(match definition_around(&source, old)? {
+            Some(name) => Touch::Definition(self.citing(&name)),
+            None => Touch::Import,
+        })
     }
 
     fn citing(&self, definition: &str) -> Vec<Function> {
@@ -195,6 +244,10 @@ impl Krate {
         }
         citing
     }
+}
+
+fn own_label(label: &str, function: &Function) -> String {
+    format!("{label}+{}", function.dotted_name())
 }
 
 fn names_in(folder: &Path) -> Result<Vec<String>, String> {
