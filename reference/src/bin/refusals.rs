@@ -43,6 +43,8 @@ fn run() -> Result<bool, String> {
     for name in names_in(&root.join("crates"))? {
         let krate = Krate::read(&root, &name)?;
         match asks {
+            // Logs can have been made for some crates alone.
+            true if !logs.join(&name).is_dir() => (),
             true => count.edits += krate.ask(&logs)?,
             false => count.add(&krate, &logs),
         }
