@@ -127,6 +127,7 @@ def main(logs, refusals, names):
             ran = check(f"{base}/crates/{crate}")
             if ran.returncode:
                 raise SystemExit(f"edit_logs: {crate} is not proved as it stands:\n{ran.stdout[-2000:]}")
+            print(f"edit_logs: {crate} is proved as it stands", flush=True)
         copies = queue.SimpleQueue()
         for _ in range(checks_at_once()):
             copies.put(copy_of(room, base))
