@@ -1,5 +1,5 @@
 /* Inverook: an SMPP v3.3 message centre with no memory of its own. What it keeps, the caller holds: an account book, a table of messages and
- * a state. Link with libinverook.a, which `rt staticlib inverook` writes to target/staticlib (x86-64 Linux, System V calling convention).
+ * a state. Link with libinverook.a, which `rt lib` in crates/inverook writes to its out/ (x86-64 Linux, System V calling convention).
  *
  * No function allocates, does input or output, keeps a pointer after it returned, or has a state of its own. So calls on different tables may
  * run at the same time; calls on one table, and on the state that belongs to it, must follow one another.

@@ -421,12 +421,13 @@ impl Log<'_> {
     fn waits(&self, function: &Function, changes: usize) -> bool {
         let Refusal { facts, misfits } = self.refusal_of(function);
         let name = function.full_name(self.krate);
-        let untried = format!("`search` has not tried the goals of `{name}`,");
-        let verdict = format!("fn {name}: ");
+        let (quoted, verdict) = (format!("`{name}`"), format!("fn {name}: "));
         let waits_for_a_callee = lines(self.text).any(|line| {
+            let untried = line.starts_with("note: `search` has not tried the goals of ");
             let calls = [", which is not proved", ", which are not proved"];
             let calls = calls.iter().any(|words| line.contains(words));
-            line.contains(&untried) || facts.is_empty() && calls && line.starts_with(&verdict)
+            untried && line.contains(&quoted)
+                || facts.is_empty() && calls && line.starts_with(&verdict)
         });
         let waits_for_a_lemma = || {
             let errors = errors_in(self.text).into_iter();
@@ -460,12 +461,11 @@ fn left_open(text: &str, name: &str) -> Vec<String> {
             let goals = goals.and_then(|(_, goals)| goals.split(';').next());
             open.extend(goals.unwrap_or("").split('`').skip(1).step_by(2));
         }
-        match ["note: ", "help: ", "  "]
-            .iter()
-            .any(|words| line.starts_with(words))
-        {
-            true => noted.extend(noted_goal(line)),
-            false => noted.clear(),
+        let mut notes = ["note: ", "help: ", "  "].iter();
+        if notes.any(|words| line.starts_with(words)) {
+            noted.extend(noted_goal(line));
+        } else {
+            noted.clear();
         }
     }
     open.into_iter().map(str::to_string).collect()
@@ -527,8 +527,9 @@ impl<'a> Error<'a> {
 
     /// Whether it only says that something else is refused.
     fn follows(&self) -> bool {
+        let said = self.message.lines().next().unwrap_or("");
         let follows = ["was not admitted", "not checked: "];
-        follows.iter().any(|words| self.message.contains(words))
+        follows.iter().any(|words| said.contains(words))
     }
 
     /// The declaration whose fact it refuses: none where it says no more than that the proof
