@@ -1,32 +1,7 @@
 -- `smsc33::turn::turn` meets its contract. Assumes nothing.
-use mathlib.Core.Path.{subst}
-use native.Mathlib.Omega.{arith}
 use native.Mathlib.Nat.{add-sub_cancel_left}
-use Rattle.lines.specs.Record.{Readable}
-use Rattle.lines.specs.declared.record.Order.{Order}
 use Rattle.smsc33.specs.Turn.{turn_of}
 use Rattle.smsc33.proofs.turn.turn.Goals as goal
-
-pub bounds-asked-1 : goal.bounds-asked-1
-bounds-asked-1 c = let h = subst (λ (o : Order). Readable o c.args.asked.now) c.in-Open.is c.order_of-order.ensures.1 in omega (arith, h)
-
-pub length_of-end-requires : goal.length_of-end-requires
-length_of-end-requires c = (subst (λ (o : Order). Readable o c.args.asked.now) c.in-Octets.is c.order_of-order.ensures.1).0
-
-pub bounds-asked-1-in-Octets : goal.bounds-asked-1-in-Octets
-bounds-asked-1-in-Octets c = let h = subst (λ (o : Order). Readable o c.args.asked.now) c.in-Octets.is c.order_of-order.ensures.1 in omega (arith, h.0)
-
-pub slice_bounds-take-end : goal.slice_bounds-take-end
-slice_bounds-take-end c = let h = subst (λ (o : Order). Readable o c.args.asked.now) c.in-Octets.is c.order_of-order.ensures.1 in omega (arith, h.0, h.1, c.length_of-end.ensures.0)
-
-pub slice_bounds-take-end-in-Octets : goal.slice_bounds-take-end-in-Octets
-slice_bounds-take-end-in-Octets c = let h = subst (λ (o : Order). Readable o c.args.asked.now) c.in-Octets.is c.order_of-order.ensures.1 in omega (arith, h.0)
-
-pub bounds-asked-1-in-Close : goal.bounds-asked-1-in-Close
-bounds-asked-1-in-Close c = let h = subst (λ (o : Order). Readable o c.args.asked.now) c.in-Close.is c.order_of-order.ensures.1 in omega (arith, h)
-
-pub outcome-requires : goal.outcome-requires
-outcome-requires c = (subst (λ (o : Order). Readable o c.args.asked.now) c.in-Outcome.is c.order_of-order.ensures.1, c.requires)
 
 pub returns-in-Open : goal.returns-in-Open
 unfolding turn_of
