@@ -5,6 +5,9 @@ usage: python3 tools/respell.py        once, at the top of the repository, after
 
 Turns the names in specs/, proofs/, the clauses and comments of src/, and the texts of must-fail/. Functions of src/, exported
 C names and strings keep theirs: none of them has a capital behind a small letter, and strings are passed over.
+
+The choice of octets/specs/Choice.antt has another first word too: `if a then b else c` is the library's own, which always opens,
+and ours stays shut until a proof opens it.
 """
 
 import os
@@ -26,6 +29,9 @@ WORD = re.compile(r"(?<![\w'\\])[a-z][A-Za-z0-9_']*")
 CAMEL = re.compile(r"(?<=[a-z0-9])([A-Z])")
 STRING = re.compile(r'b?"(?:[^"\\]|\\.)*"')
 NUMBER = re.compile(r"x[0-9A-F_]+$")
+# The choice in a definition, a lemma or a clause: not a step of a proof (`c.if-x`), nor Rust's `if`.
+CHOICE = re.compile(r"(?<![\w.'-])if(?=◌then◌else◌|\s|$)")
+OF_RUST = re.compile(r"\s*(ensures|requires|ghost use)\b")
 
 
 def word(m):
@@ -45,6 +51,19 @@ def respelled(text):
     return "".join(out) + WORD.sub(word, text[at:])
 
 
+def chosen(path, text):
+    """The text with our choice in it. In an edit only what stands below `file: specs/` is of a definition."""
+    lines, of_specs = [], path.endswith(".antt")
+    for line in text.split("\n"):
+        if path.endswith(".edit") and line.startswith("file: "):
+            of_specs = line.startswith("file: specs/")
+        is_comment = line.lstrip().startswith(("--", "#"))
+        if not is_comment and (of_specs or path.endswith(".rt") and OF_RUST.match(line)):
+            line = CHOICE.sub("when", line)
+        lines.append(line)
+    return "\n".join(lines)
+
+
 def turn(path, crate):
     with open(path, encoding="utf-8") as f:
         old = f.read()
@@ -53,7 +72,7 @@ def turn(path, crate):
         for where, lemma, to in LEMMAS:
             if where == crate:
                 new = re.sub(r"(?<![\w'-])" + lemma + r"(?![\w'-])", to, new)
-    new = "\n".join(respelled(line) for line in new.split("\n"))
+    new = chosen(path, "\n".join(respelled(line) for line in new.split("\n")))
     if new != old:
         with open(path, "w", encoding="utf-8") as f:
             f.write(new)

@@ -1,6 +1,6 @@
 -- cancel_sm (document 01, "Effects").
 use Rattle.std.specs.Prelude.{ℕ, Bool, not, ◌&&◌, ◌||◌, List, eqb}
-use Rattle.octets.specs.Choice.{if◌then◌else◌}
+use Rattle.octets.specs.Choice.{when◌then◌else◌}
 use Rattle.forms.specs.declared.text.MessageId.{MessageId}
 use Rattle.forms.specs.declared.text.MessageId.TheVariants.{Empty, Number}
 use Rattle.wire.specs.Status.{invalid_destination, invalid_message_id, cannot_cancel}
@@ -33,16 +33,16 @@ cancellable source destination r =
 unfoldable pub cancelled_one : ℕ → List ℕ → List ℕ → List ℕ → List ℕ → Changed
 cancelled_one id source destination stamp part =
     on_found (place_of id part)
-    (λ k. if cancellable source destination (record_at k part) then changed 0 (on_place (deleted stamp) k part) else changed cannot_cancel part)
+    (λ k. when cancellable source destination (record_at k part) then changed 0 (on_place (deleted stamp) k part) else changed cannot_cancel part)
     (changed invalid_message_id part)
 
 unfoldable pub deleted_if : List ℕ → List ℕ → List ℕ → List ℕ → List ℕ
-deleted_if source destination stamp r = if waiting r && between source destination r then deleted stamp r else r
+deleted_if source destination stamp r = when waiting r && between source destination r then deleted stamp r else r
 
 -- with an empty id: empty destination 11; all waiting records with that source and destination are deleted, 17 if none
 unfoldable pub cancelled_all : List ℕ → List ℕ → List ℕ → List ℕ → Changed
 cancelled_all source destination stamp part =
-    if no_address destination then changed invalid_destination part
+    when no_address destination then changed invalid_destination part
     else on_found (pair_place source destination part)
     (λ k. changed 0 (on_places (deleted_if source destination stamp) places 0 part))
     (changed cannot_cancel part)
@@ -55,5 +55,5 @@ unfoldable pub cancelled : List ℕ → List ℕ → List ℕ → List ℕ → C
 cancelled book stamp body part =
     let read = cancel_of body in
     let c = read.request in
-    if not (eqb read.status 0) then changed read.status part
+    when not (eqb read.status 0) then changed read.status part
     else cancelled_by c.id (source_for book c.source.octets) c.destination.octets stamp part

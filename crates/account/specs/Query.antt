@@ -1,6 +1,6 @@
 -- query_sm (document 01, "Effects"): unknown or empty id, or another source: 12.
 use Rattle.std.specs.Prelude.{ℕ, not, List, eqb}
-use Rattle.octets.specs.Choice.{if◌then◌else◌}
+use Rattle.octets.specs.Choice.{when◌then◌else◌}
 use Rattle.wire.specs.Status.{invalid_message_id}
 use Rattle.requests.specs.Query.{query_of}
 use Rattle.requests.specs.declared.query.Query.{Query}
@@ -18,10 +18,10 @@ refused status = record { status = status; place = Nowhere }
 unfoldable pub looked_up : List ℕ → Query → List ℕ → Asked
 looked_up book q part =
     on_found (known q.id part)
-    (λ k. if same_address (source_of (record_at k part)) (source_for book q.source.octets) then record { status = 0; place = At k } else refused invalid_message_id)
+    (λ k. when same_address (source_of (record_at k part)) (source_for book q.source.octets) then record { status = 0; place = At k } else refused invalid_message_id)
     (refused invalid_message_id)
 
 unfoldable pub queried : List ℕ → List ℕ → List ℕ → Asked
 queried book body part =
     let read = query_of body in
-    if not (eqb read.status 0) then refused read.status else looked_up book read.request part
+    when not (eqb read.status 0) then refused read.status else looked_up book read.request part

@@ -1,6 +1,6 @@
 -- replace_sm (document 01, "Effects"): unknown or empty id 12; source differs or not waiting 19.
 use Rattle.std.specs.Prelude.{ℕ, not, ◌&&◌, List, eqb}
-use Rattle.octets.specs.Choice.{if◌then◌else◌}
+use Rattle.octets.specs.Choice.{when◌then◌else◌}
 use Rattle.wire.specs.Status.{invalid_message_id, cannot_replace}
 use Rattle.wire.specs.Fields.{octets_of}
 use Rattle.requests.specs.Replace.{replace_of}
@@ -22,7 +22,7 @@ correction_of r =
 unfoldable pub replaced_in : List ℕ → Replace → List ℕ → List ℕ → Changed
 replaced_in source r body part =
     on_found (known r.id part)
-    (λ k. if same_address (source_of (record_at k part)) source && waiting (record_at k part)
+    (λ k. when same_address (source_of (record_at k part)) source && waiting (record_at k part)
     then changed 0 (on_place (corrected (correction_of r) (octets_of r.text body)) k part)
     else changed cannot_replace part)
     (changed invalid_message_id part)
@@ -31,4 +31,4 @@ unfoldable pub replaced : List ℕ → List ℕ → List ℕ → Changed
 replaced book body part =
     let read = replace_of body in
     let r = read.request in
-    if not (eqb read.status 0) then changed read.status part else replaced_in (source_for book r.source.octets) r body part
+    when not (eqb read.status 0) then changed read.status part else replaced_in (source_for book r.source.octets) r body part

@@ -1,7 +1,7 @@
 -- Octets on a bound session (document 01, "From octets to a response" and "Effects"; document 02, 1): what is asked of one account, given its book
 -- record, what it has stored (its part of the table, its last id), and the receipt that is outstanding on the session.
 use Rattle.std.specs.Prelude.{ℕ, ◌-◌, Bool, true, false, List, eqb, length, take, drop}
-use Rattle.octets.specs.Choice.{if◌then◌else◌}
+use Rattle.octets.specs.Choice.{when◌then◌else◌}
 use Rattle.forms.specs.declared.text.MessageId.TheVariants.{Empty, Number}
 use Rattle.forms.specs.Field.{text_of}
 use Rattle.wire.specs.Status.{invalid_command_id, invalid_bind_status, already_bound}
@@ -49,7 +49,7 @@ turning status body stored = record { status = status; body = body; stored = sto
 
 -- the four need transmitter, else 4, and the account stays as it was
 abbrev pub by_transmitter : Bool → List ℕ → Stored → Turn → Turn
-by_transmitter transmitter body stored turn = if transmitter then turn else turning invalid_bind_status body stored
+by_transmitter transmitter body stored turn = when transmitter then turn else turning invalid_bind_status body stored
 
 unfoldable pub submit_turn : Bool → List ℕ → List ℕ → Stored → Turn
 submit_turn transmitter book body stored =
@@ -138,7 +138,7 @@ bound_frame transmitter book octets stamp space (Whole n) hand =
 -- 9 for the bound account, then the octets
 unfoldable pub on_bound : Bool → List ℕ → Octets → Hand → Effect Hand Answer
 on_bound transmitter book x hand =
-    if account_ok book hand.stored.last hand.stored.part
+    when account_ok book hand.stored.last hand.stored.part
     then bound_frame transmitter book x.octets x.stamp x.space (frame_of x.octets) hand
     else keeping (refused_octets 9 x) hand
 

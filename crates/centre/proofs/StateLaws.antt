@@ -5,7 +5,7 @@ use mathlib.Core.Bool.{Bool, true, false}
 use mathlib.Core.List.{List}
 use Prim.Native.Nat.{ℕ}
 use lib.Seq.{set-get_or}
-use Rattle.octets.specs.Choice.{if◌then◌else◌}
+use Rattle.octets.specs.Choice.{when◌then◌else◌}
 use Rattle.session.specs.State.{last_at, receipts_of, ended, issued, granted}
 use Rattle.session.specs.declared.Entry.TheVariants.{Ended}
 use Rattle.session.specs.declared.State.{State}
@@ -21,8 +21,8 @@ own_same_lem st a = ap (λ (u : State). granted u a (receipts_of st a)) (issued-
 
 -- a session that ends, or goes on
 pub concluded-put : (st : State) (t : List ℕ) (s a : ℕ) (ends : Bool) (o : Own)
-    → put_own (if ends then put_entry (world st t) s Ended else world st t) a o
-    ≡ world (issued (granted (if ends then ended st s else st) a o.receipts) a o.last) (put_part a o.part t)
-unfolding if◌then◌else◌
+    → put_own (when ends then put_entry (world st t) s Ended else world st t) a o
+    ≡ world (issued (granted (when ends then ended st s else st) a o.receipts) a o.last) (put_part a o.part t)
+unfolding when◌then◌else◌
 concluded-put st t s a true o = refl
 concluded-put st t s a false o = refl

@@ -1,6 +1,6 @@
 -- The centre, as a machine of the platform: its `step` is what every public operation is proved to follow.
 use Rattle.std.specs.Prelude.{ℕ, ◌≤◌, ◌≡◌, Bool, not, ◌||◌, List, map, ltb, eqb, length, get_or, set}
-use Rattle.octets.specs.Choice.{if◌then◌else◌}
+use Rattle.octets.specs.Choice.{when◌then◌else◌}
 use Rattle.forms.specs.Time.{time_length, sent_time}
 use Rattle.answers.specs.Reply.{space_needed}
 use Rattle.records.specs.Book.{book_size, book_record}
@@ -27,16 +27,16 @@ wrong_sizes book table = not (eqb book book_size) || not (eqb table table_size)
 -- octets: 3, 4, 5, from the sizes of book, table and space, and the stamp
 unfoldable pub octets_early : ℕ → ℕ → List ℕ → ℕ → ℕ
 octets_early book table stamp space =
-    if wrong_sizes book table then 3
-    else if ltb space space_needed then 4
-    else if not (sent_time stamp) then 5
+    when wrong_sizes book table then 3
+    else when ltb space space_needed then 4
+    else when not (sent_time stamp) then 5
     else 0
 
 -- a receipt: 3, 4
 unfoldable pub delivery_early : ℕ → ℕ → ℕ → ℕ
 delivery_early book table space =
-    if wrong_sizes book table then 3
-    else if ltb space longest_delivery then 4
+    when wrong_sizes book table then 3
+    else when ltb space longest_delivery then 4
     else 0
 
 abbrev pub early_call : List ℕ → ℕ → Call → ℕ
@@ -46,13 +46,13 @@ early_call book table (delivering y) = delivery_early (length book) table (lengt
 -- outcome: 3, 5
 unfoldable pub outcome_early : ℕ → ℕ → List ℕ → ℕ
 outcome_early book table stamp =
-    if wrong_sizes book table then 3
-    else if not (sent_time stamp) then 5
+    when wrong_sizes book table then 3
+    else when not (sent_time stamp) then 5
     else 0
 
 -- picking: 3
 unfoldable pub pick_early : ℕ → ℕ → ℕ
-pick_early book table = if wrong_sizes book table then 3 else 0
+pick_early book table = when wrong_sizes book table then 3 else 0
 
 abbrev pub early_question : List ℕ → ℕ → Question → ℕ
 early_question book table (outcome x) = outcome_early (length book) table x.stamp
@@ -134,11 +134,11 @@ reports number state table = record { answer = numbered number; world = world st
 
 pub record Fit (book table : ℕ) (stamp : List ℕ) (space : ℕ) : Type 0 where
   pub book_fits : book ≡ book_size
-  pub table_fits : table ≡ table_size
+  pub table_fits_lem : table ≡ table_size
   pub stamp_fits : length stamp ≡ time_length
   pub space_fits : space_needed ≤ space
 
 pub record Fitting (book table space : ℕ) : Type 0 where
   pub book_fits : book ≡ book_size
-  pub table_fits : table ≡ table_size
+  pub table_fits_lem : table ≡ table_size
   pub space_fits : longest_delivery ≤ space

@@ -1,6 +1,6 @@
 -- What is asked of one account (document 01, "Numbers a caller gets"), given its book record, its last id and its part: an outcome and a pick.
 use Rattle.std.specs.Prelude.{ℕ, Bool, not, ◌||◌, List, eqb}
-use Rattle.octets.specs.Choice.{if◌then◌else◌}
+use Rattle.octets.specs.Choice.{when◌then◌else◌}
 use Rattle.store.specs.Places.{record_at, on_found}
 use Rattle.store.specs.Search.{next_place}
 use Rattle.store.specs.Account.{account_ok}
@@ -24,16 +24,16 @@ noting number part = record { number = number; part = part }
 
 unfoldable pub noted : List ℕ → Outcome → ℕ → List ℕ → Noted
 noted book x last part =
-    if not (outcome_ok x.state) then noting 8 part
-    else if not (account_ok book last part) then noting 9 part
+    when not (outcome_ok x.state) then noting 8 part
+    else when not (account_ok book last part) then noting 9 part
     else let c = reported x.stamp x.id x.state x.error part in
-    noting (if c.waited then 0 else 10) c.part
+    noting (when c.waited then 0 else 10) c.part
 
 -- ---- a pick: 9, 11
 
 unfoldable pub picked_from : List ℕ → ℕ → List ℕ → Answer
 picked_from book last part =
-    if not (account_ok book last part) then numbered 9
+    when not (account_ok book last part) then numbered 9
     else on_found (next_place part) (λ k. picked k (record_at k part)) (numbered 11)
 
 -- ---- either: of what is the account's own a part may change, and nothing else

@@ -6,7 +6,7 @@ ghost use Rattle.records.specs.Book.{book_size};
 ghost use Rattle.session.specs.State.{session_count, account_count, ended, issued, receipts_of, granted};
 ghost use Rattle.session.specs.declared.Entry.TheVariants.{Open};
 ghost use Rattle.isolation.specs.Platform.{table_size, Step, become, on_account, on_entry};
-ghost use Rattle.octets.specs.Choice.{if◌then◌else◌};
+ghost use Rattle.octets.specs.Choice.{when◌then◌else◌};
 ghost use Rattle.answers.specs.Answer.{Call};
 ghost use Rattle.bound.specs.Bound.{is_transmitter};
 ghost use Rattle.centre.specs.Centre.{octets_early, Fit, centre, step, world, takes};
@@ -91,7 +91,7 @@ fn conclude(
     last: u32,
 ) -> State
     requires { (session < session_count) × (account < account_count) }
-    ensures { result ≡ issued (granted (if ends then ended state session else state) account (set (receipts_of state account) session receipt)) account last }
+    ensures { result ≡ issued (granted (when ends then ended state session else state) account (set (receipts_of state account) session receipt)) account last }
 {
     if ends {
         let over = state.unbind(session);

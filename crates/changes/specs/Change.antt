@@ -1,6 +1,6 @@
 -- What is written into records (document 01, "Effects"; document 02, 1).
 use Rattle.std.specs.Prelude.{ℕ, List, [], ◌∷◌, ◌++◌, length}
-use Rattle.octets.specs.Choice.{if◌then◌else◌}
+use Rattle.octets.specs.Choice.{when◌then◌else◌}
 use Rattle.octets.specs.Stretch.{patch, padded, zeros}
 use Rattle.octets.specs.Number.{octets4}
 use Rattle.forms.specs.Text.{longest_text}
@@ -39,7 +39,7 @@ retexted default text r = patch r default_at (default ∷ length text ∷ padded
 
 -- a time that is given takes the place of the stored one
 abbrev pub retimed : ℕ → List ℕ → List ℕ → List ℕ
-retimed at time r = if zeros time then r else patch r at time
+retimed at time r = when zeros time then r else patch r at time
 
 -- non-empty times replace the stored ones; flag, default id, length and text always do
 unfoldable pub corrected : Correction → List ℕ → List ℕ → List ℕ

@@ -10,18 +10,18 @@ use lib.ListN.{length, drop, get_or, replicate, drop_of_length-le}
 use lib.Seq.{drop-cons}
 use lib.Dec.{eqb, leb, eqb-suc-suc, eqb-zero-suc}
 use borrow.Author.Tests.{leb-true}
-use Rattle.octets.specs.Choice.{if◌then◌else◌}
+use Rattle.octets.specs.Choice.{when◌then◌else◌}
 use Rattle.octets.specs.Stretch.{every}
 use Rattle.octets.proofs.StretchLaws.{and_left, and_right, if-true}
 use Rattle.forms.specs.Class.{within, lead}
 
 module _ (p : ℕ → Bool) (xs : List ℕ) (i : ℕ) where
   pub lead-stops : i < length xs → p (get_or xs i 0) ≡ false → i + lead p (drop i xs) ≡ i
-  unfolding lead if◌then◌else◌
+  unfolding lead when◌then◌else◌
   lead-stops h test = rw (drop-cons xs i 0 h, test) (add-zero i)
 
   pub lead-goes : i < length xs → p (get_or xs i 0) ≡ true → i + lead p (drop i xs) ≡ (i + 1) + lead p (drop (i + 1) xs)
-  unfolding lead if◌then◌else◌
+  unfolding lead when◌then◌else◌
   lead-goes h test = rw (drop-cons xs i 0 h, test, add-one i) (omega arith)
 
   pub lead-end : length xs ≤ i → i + lead p (drop i xs) ≡ i
@@ -32,29 +32,29 @@ pub lead-start : (p : ℕ → Bool) (xs : List ℕ) → lead p xs ≡ 0 + lead p
 lead-start p xs = sym (zero-add (lead p xs))
 
 pub lead-within : (p : ℕ → Bool) (xs : List ℕ) → lead p xs ≤ length xs
-unfolding lead if◌then◌else◌
+unfolding lead when◌then◌else◌
 lead-within p [] = omega arith
 lead-within p (x ∷ xs) = by (p x) (lead-within p xs)
   where
-    by : (t : Bool) {n m : ℕ} → n ≤ m → (if t then suc n else 0) ≤ suc m
+    by : (t : Bool) {n m : ℕ} → n ≤ m → (when t then suc n else 0) ≤ suc m
     by true h = omega arith
     by false h = omega arith
 
 -- every element passes where the run goes to the end
 pub every-lead : (p : ℕ → Bool) (xs : List ℕ) → every p xs ≡ eqb (lead p xs) (length xs)
-unfolding every lead if◌then◌else◌
+unfolding every lead when◌then◌else◌
 every-lead p [] = refl
 every-lead p (x ∷ xs) = by (p x) (every p xs) (lead p xs) (length xs) (every-lead p xs)
   where
-    by : (t b : Bool) (n m : ℕ) → b ≡ eqb n m → (t && b) ≡ eqb (if t then suc n else 0) (suc m)
+    by : (t b : Bool) (n m : ℕ) → b ≡ eqb n m → (t && b) ≡ eqb (when t then suc n else 0) (suc m)
     by true b n m h = h ∙ sym (eqb-suc-suc n m)
     by false b n m h = sym (eqb-zero-suc m)
 
 -- a count passes a list of the class, and goes no further than an octet that isn't
 pub lead-append : (p : ℕ → Bool) (xs ys : List ℕ) → lead p ys ≡ 0 → lead p (xs ++ ys) ≡ lead p xs
-unfolding lead if◌then◌else◌
+unfolding lead when◌then◌else◌
 lead-append p [] ys e = e
-lead-append p (x ∷ xs) ys e = ap (λ (n : ℕ). if p x then suc n else 0) (lead-append p xs ys e)
+lead-append p (x ∷ xs) ys e = ap (λ (n : ℕ). when p x then suc n else 0) (lead-append p xs ys e)
 
 pub lead-all : (p : ℕ → Bool) (xs : List ℕ) → every p xs ≡ true → lead p xs ≡ length xs
 unfolding every lead
@@ -63,7 +63,7 @@ lead-all p (x ∷ xs) h =
     if-true (p x) (suc (lead p xs)) 0 (and_left (p x) (every p xs) h) ∙ ap suc (lead-all p xs (and_right (p x) (every p xs) h))
 
 pub lead-zeros : (p : ℕ → Bool) (n : ℕ) → p 0 ≡ false → lead p (replicate n 0) ≡ 0
-unfolding lead if◌then◌else◌
+unfolding lead when◌then◌else◌
 lead-zeros p zero h = refl
 lead-zeros p (suc n) h = rw h
 

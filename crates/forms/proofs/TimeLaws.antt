@@ -5,12 +5,12 @@ use mathlib.Core.List.{List}
 use Prim.Native.Nat.{ℕ}
 use lib.ListN.{length}
 use borrow.Author.Tests.{eqb-true}
-use Rattle.octets.specs.Choice.{if◌then◌else◌}
+use Rattle.octets.specs.Choice.{when◌then◌else◌}
 use Rattle.forms.specs.Time.{is_time, sent_time}
 
 -- a time has 16 characters
-chosen : (t b : Bool) → (if t then b else false) ≡ true → t ≡ true
-unfolding if◌then◌else◌
+chosen : (t b : Bool) → (when t then b else false) ≡ true → t ≡ true
+unfolding when◌then◌else◌
 chosen true b h = refl
 chosen false b h = absurd (false≢true h)
 

@@ -1,6 +1,6 @@
 -- Classes of octets, as document 01 names them under "Fields and their status".
 use Rattle.std.specs.Prelude.{ℕ, suc, Bool, not, ◌&&◌, ◌||◌, List, [], ◌∷◌, ltb, leb, eqb}
-use Rattle.octets.specs.Choice.{if◌then◌else◌}
+use Rattle.octets.specs.Choice.{when◌then◌else◌}
 use Rattle.forms.specs.declared.class.Class.{Class}
 use Rattle.forms.specs.declared.class.Class.TheVariants.{NotNul, Ascii, Space, Decimal, Hexadecimal}
 
@@ -25,4 +25,4 @@ in_class Hexadecimal x = hexadecimal x
 -- how many octets a list begins with that pass the test
 unfoldable pub lead : (ℕ → Bool) → List ℕ → ℕ
 lead p [] = 0
-lead p (x ∷ xs) = if p x then suc (lead p xs) else 0
+lead p (x ∷ xs) = when p x then suc (lead p xs) else 0

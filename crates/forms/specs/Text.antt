@@ -1,7 +1,7 @@
 -- The forms of a text (document 01, "Fields and their status"): said once, on the text without its NUL, for what is received and for
 -- what is stored.
 use Rattle.std.specs.Prelude.{ℕ, ◌-◌, Bool, ◌&&◌, ◌||◌, List, map, length, drop, ltb, leb, eqb}
-use Rattle.octets.specs.Choice.{if◌then◌else◌}
+use Rattle.octets.specs.Choice.{when◌then◌else◌}
 use Rattle.octets.specs.Stretch.{every}
 use Rattle.octets.specs.Lent.{Lent, lent_from}
 use Rattle.octets.specs.Number.{onto}
@@ -51,9 +51,9 @@ formed MessageIdOrNone t = empty t || is_message_id t
 -- what a hex digit of either case stands for; 0 for any other octet
 unfoldable pub nibble : ℕ → ℕ
 nibble x =
-    if within 48 57 x then x - 48
-    else if within 65 70 x then x - 55
-    else if within 97 102 x then x - 87
+    when within 48 57 x then x - 48
+    else when within 65 70 x then x - 55
+    else when within 97 102 x then x - 87
     else 0
 
 -- the number that hex digits write
@@ -62,4 +62,4 @@ hex_value digits = onto 16 0 (map nibble digits)
 
 -- a message id, read as a number; an empty one is not the number 0
 unfoldable pub message_id : List ℕ → MessageId
-message_id t = if empty t then Empty else Number (hex_value (after_spaces t))
+message_id t = when empty t then Empty else Number (hex_value (after_spaces t))

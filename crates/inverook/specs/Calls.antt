@@ -1,6 +1,6 @@
 -- What a call from C gives, beside what a step of the centre gives.
 use Rattle.std.specs.Prelude.{ℕ, List, ltb, length}
-use Rattle.octets.specs.Choice.{if◌then◌else◌}
+use Rattle.octets.specs.Choice.{when◌then◌else◌}
 use Rattle.octets.specs.Stretch.{patch}
 use Rattle.isolation.specs.Platform.{Ran, table_size}
 use Rattle.answers.specs.Reply.{Written, wrote}
@@ -43,4 +43,4 @@ picked_at account (A.picked k r) = start_of account k
 
 -- the picked record copied to the front of a lent space, where it fits there, and how many octets were copied
 unfoldable pub copied_to : List ℕ → List ℕ → Written
-copied_to octets space = if ltb (length space) (length octets) then wrote 0 space else wrote (length octets) (patch space 0 octets)
+copied_to octets space = when ltb (length space) (length octets) then wrote 0 space else wrote (length octets) (patch space 0 octets)

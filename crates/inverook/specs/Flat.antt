@@ -1,6 +1,6 @@
 -- The state as C holds it, and the state that it stands for.
 use Rattle.std.specs.Prelude.{ℕ, List, [], ◌∷◌, map, get_or, eqb, not, ◌&&◌}
-use Rattle.octets.specs.Choice.{if◌then◌else◌}
+use Rattle.octets.specs.Choice.{when◌then◌else◌}
 use Rattle.session.specs.State.{closed_session, entry_at, is_receiver, held_id, held_sequence}
 use Rattle.session.specs.declared.Entry.{Entry}
 use Rattle.session.specs.declared.Entry.TheVariants.{Closed, Open, Transmitter, Receiver, Ended}
@@ -17,15 +17,15 @@ sessions = 0 ∷ 1 ∷ 2 ∷ 3 ∷ 4 ∷ 5 ∷ 6 ∷ 7 ∷ 8 ∷ 9 ∷ 10 ∷ 11
 
 unfoldable pub entry_of : ℕ → ℕ → Entry
 entry_of kind account =
-    if eqb kind 0 then Closed
-    else if eqb kind 1 then Open
-    else if eqb kind 2 then Transmitter account
-    else if eqb kind 3 then Receiver account
+    when eqb kind 0 then Closed
+    else when eqb kind 1 then Open
+    else when eqb kind 2 then Transmitter account
+    else when eqb kind 3 then Receiver account
     else Ended
 
 -- a receipt is looked at where the kind is 3 and the id is not 0
 unfoldable pub receipt_of : ℕ → ℕ → ℕ → Receipt
-receipt_of kind id sequence = if eqb kind 3 && not (eqb id 0) then Outstanding id sequence else None
+receipt_of kind id sequence = when eqb kind 3 && not (eqb id 0) then Outstanding id sequence else None
 
 abbrev pub session_at : InverookState → ℕ → Session
 session_at flat i =
@@ -55,7 +55,7 @@ entry_account Ended = 0
 unfoldable pub receipt_at : State → ℕ → Receipt
 receipt_at st i =
     let x = get_or st.sessions i closed_session in
-    if is_receiver x.entry then x.receipt else None
+    when is_receiver x.entry then x.receipt else None
 
 unfoldable pub kind_at : State → ℕ → ℕ
 kind_at st i = entry_kind (entry_at st i)

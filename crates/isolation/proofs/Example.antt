@@ -5,7 +5,7 @@ use mathlib.Core.Bool.{true, false}
 use mathlib.Core.List.{List, [], ◌∷◌}
 use Prim.Native.Nat.{ℕ, ◌+◌}
 use lib.ListN.{take, replicate}
-use Rattle.octets.specs.Choice.{if◌then◌else◌}
+use Rattle.octets.specs.Choice.{when◌then◌else◌}
 use Rattle.session.specs.State.{session_count, receipts_of, granting, opened, closed}
 use Rattle.session.specs.declared.Entry.TheVariants.{Receiver}
 use Rattle.session.specs.declared.Receipt.TheVariants.{None, Outstanding}
@@ -57,19 +57,19 @@ abbrev kept_as_bind : Step ℕ ℕ → Kept ℕ ℕ
 kept_as_bind st = record { step = st; binds = true }
 
 remaining-0 : remaining counting 0 tt fresh history ≡ kept_as_bind (on 0 0) ∷ kept (on 0 7) ∷ kept (closes 0) ∷ []
-unfolding concerns binds step opened closed granting if◌then◌else◌ fresh
+unfolding concerns binds step opened closed granting when◌then◌else◌ fresh
 remaining-0 = refl
 
 remaining-1 : remaining counting 1 tt fresh history ≡ kept_as_bind (on 1 1) ∷ kept (on 1 8) ∷ kept (of 1 9) ∷ kept (closes 1) ∷ []
-unfolding concerns binds step opened closed granting if◌then◌else◌ fresh
+unfolding concerns binds step opened closed granting when◌then◌else◌ fresh
 remaining-1 = refl
 
 answers-0 : answers_of counting 0 tt fresh history ≡ 50 ∷ 1 ∷ 0 ∷ []
-unfolding concerns step opened closed granting if◌then◌else◌ fresh
+unfolding concerns step opened closed granting when◌then◌else◌ fresh
 answers-0 = refl
 
 answers-1 : answers_of counting 1 tt fresh history ≡ 50 ∷ 1 ∷ 2 ∷ 0 ∷ []
-unfolding concerns step opened closed granting if◌then◌else◌ fresh
+unfolding concerns step opened closed granting when◌then◌else◌ fresh
 answers-1 = refl
 
 -- ---- before the two close, each account's receipt is outstanding on its own receiver alone; afterwards none is
@@ -78,13 +78,13 @@ abbrev state_after : ℕ → State
 state_after n = (after counting tt fresh (take n history)).state
 
 receipts-0 : receipts_of (state_after 7) 0 ≡ Outstanding 1 0 ∷ replicate 15 None
-unfolding step opened closed granting if◌then◌else◌ fresh
+unfolding step opened closed granting when◌then◌else◌ fresh
 receipts-0 = refl
 
 receipts-1 : receipts_of (state_after 7) 1 ≡ None ∷ Outstanding 2 1 ∷ replicate 14 None
-unfolding step opened closed granting if◌then◌else◌ fresh
+unfolding step opened closed granting when◌then◌else◌ fresh
 receipts-1 = refl
 
 receipts-closed : receipts_of (state_after 9) 1 ≡ replicate session_count None
-unfolding step opened closed granting if◌then◌else◌ fresh
+unfolding step opened closed granting when◌then◌else◌ fresh
 receipts-closed = refl

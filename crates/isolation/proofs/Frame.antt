@@ -6,7 +6,7 @@ use Prim.Native.Nat.{ℕ, ◌<◌}
 use lib.ListN.{length}
 use lib.Dec.{ltb, leb, eqb}
 use borrow.Author.Tests.{ltb-true, leb-false, eqb-true, eqb-false}
-use Rattle.octets.specs.Choice.{if◌then◌else◌}
+use Rattle.octets.specs.Choice.{when◌then◌else◌}
 use Rattle.octets.proofs.StretchLaws.{or_left, or_right, if-cases}
 use Rattle.session.specs.State.{session_count, account_count, entry_at, opened, opened_from, closed}
 use Rattle.session.specs.declared.Entry.{Entry}
@@ -64,7 +64,7 @@ module _ (m : Machine) (b : m.Book) (A : ℕ) (w : World) where
         let q = on_session s e x in
         let ends = (ask m b w a q).ends in
         if-cases Leaves (ltb a account_count) _ _
-        (λ t. foreign-put a q ne t (if ends then put_entry w s Ended else w)
+        (λ t. foreign-put a q ne t (when ends then put_entry w s Ended else w)
         ∙ if-cases (λ (u : World). view A u ≡ view A w) ends (put_entry w s Ended) w (λ k. view-hidden A w s Ended h refl) (λ k. refl))
         (λ t. refl)
 

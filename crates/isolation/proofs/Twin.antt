@@ -6,7 +6,7 @@ use Prim.Native.Nat.{ℕ, ◌<◌}
 use lib.ListN.{length}
 use lib.Dec.{ltb, leb, eqb}
 use borrow.Author.Tests.{ltb-true, eqb-true, eq-eqb, lt-leb, not-true, not-false}
-use Rattle.octets.specs.Choice.{if◌then◌else◌}
+use Rattle.octets.specs.Choice.{when◌then◌else◌}
 use Rattle.octets.proofs.StretchLaws.{or_right, and_right, and-false, if-cases}
 use Rattle.session.specs.State.{session_count, account_count, entry_at, opened, opened_from, closed}
 use Rattle.session.specs.declared.Entry.{Entry}
@@ -21,8 +21,8 @@ use Rattle.isolation.proofs.Frame.{own, fronted, Foreign, leaves, fronts, foreig
 
 -- one test that chooses in both runs
 pub if-both : {X Y : Type 0} (P : X → Y → Type 0) (t : Bool) (x x' : X) (y y' : Y) → (t ≡ true → P x y) → (t ≡ false → P x' y')
-    → P (if t then x else x') (if t then y else y')
-unfolding if◌then◌else◌
+    → P (when t then x else x') (when t then y else y')
+unfolding when◌then◌else◌
 if-both P true x x' y y' p q = p refl
 if-both P false x x' y y' p q = q refl
 
@@ -147,12 +147,12 @@ module _ (m : Machine) (keeps : Keeps m) (b : m.Book) (A : ℕ) where
 
   front-step : (u : World) → Sized u → (s : ℕ) → s < session_count → entry_at u.state s ≡ Open → (x : X) → early_on b table_size x ≡ 0
       → step m b u (on s x) ≡ fronted m b u s x
-  unfolding step if◌then◌else◌
+  unfolding step when◌then◌else◌
   front-step u z s l e x n = rw (lt-leb session_count s l, z.table, eq-eqb (early_on b table_size x) 0 n, e)
 
   module _ (v : World) (y : Sized v) (s : ℕ) (l : s < session_count) where
     reopened-is : reopened m b v s ≡ put_entry (put_entry v s Closed) s Open
-    unfolding step opened closed if◌then◌else◌
+    unfolding step opened closed when◌then◌else◌
     reopened-is = rw (lt-leb session_count s l, entry-put v y s l Closed)
 
     reopened-open : entry_at (reopened m b v s).state s ≡ Open

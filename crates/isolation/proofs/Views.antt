@@ -9,7 +9,7 @@ use native.Mathlib.Omega.{arith}
 use native.Mathlib.Decide.{dec_lt}
 use lib.ListN.{length, get_or, set, get_or-map}
 use lib.Seq.{map-set_same, get_or-set_same, get_or-set_other}
-use Rattle.octets.specs.Choice.{if◌then◌else◌}
+use Rattle.octets.specs.Choice.{when◌then◌else◌}
 use Rattle.octets.proofs.StretchLaws.{if-cases, if-true, if-false}
 use Rattle.octets.proofs.PatchLaws.{part-patch, part-before, part-after}
 use Rattle.session.specs.State.{session_count, account_count, session_with, closed_session, entry_at, receiver_of, receipt_for, granted_to, granting}
@@ -25,7 +25,7 @@ use Rattle.isolation.proofs.Sizes.{Sized}
 
 -- what A is shown of a session with that entry
 abbrev pub shown : ℕ → Entry → Entry
-shown A e = if bound_to A e then e else Closed
+shown A e = when bound_to A e then e else Closed
 
 abbrev pub shown_of : ℕ → Session → Entry
 shown_of A ses = shown A ses.entry
@@ -77,7 +77,7 @@ receiver-shown A e = if-cases (λ (d : Entry). receiver_of A e ≡ receiver_of A
 given-one : (A : ℕ) (ses : Session) (r : Receipt) → receipt_for A (granted_to A ses r) ≡ receipt_for A (granted_to A (session_with (shown_of A ses)) r)
 given-one A ses r =
     given-receipt A ses r
-    ∙ ap (λ t. if t then r else None) (receiver-shown A ses.entry)
+    ∙ ap (λ t. when t then r else None) (receiver-shown A ses.entry)
     ∙ sym (given-receipt A (session_with (shown_of A ses)) r)
 
 given-shown : (A : ℕ) (xs : List Session) (rs : List Receipt) → map (receipt_for A) (granting A xs rs) ≡ given_to A (map (shown_of A) xs) rs

@@ -1,6 +1,6 @@
 -- Histories: what concerns an account, the steps that remain, and those steps run alone.
 use Rattle.std.specs.Prelude.{ℕ, Bool, false, not, ◌&&◌, ◌||◌, List, [], ◌∷◌, eqb}
-use Rattle.octets.specs.Choice.{if◌then◌else◌}
+use Rattle.octets.specs.Choice.{when◌then◌else◌}
 use Rattle.session.specs.State.{entry_at}
 use Rattle.session.specs.declared.Entry.{Entry}
 use Rattle.session.specs.declared.Entry.TheVariants.{Closed, Open, Transmitter, Receiver, Ended}
@@ -55,13 +55,13 @@ module _ (m : Machine) where
   answers_of A b w [] = []
   answers_of A b w (st ∷ sts) =
       let rest = answers_of A b (step m b w st).world sts in
-      if concerns A b w st then (step m b w st).answer ∷ rest else rest
+      when concerns A b w st then (step m b w st).answer ∷ rest else rest
 
   abbrev pub remaining : ℕ → Book → World → List (Step X Q) → List (Kept X Q)
   remaining A b w [] = []
   remaining A b w (st ∷ sts) =
       let rest = remaining A b (step m b w st).world sts in
-      if concerns A b w st then record { step = st; binds = binds A b w st } ∷ rest else rest
+      when concerns A b w st then record { step = st; binds = binds A b w st } ∷ rest else rest
 
   -- ---- the remaining steps run alone, each session closed and opened afresh before a step that binds it
 
@@ -75,7 +75,7 @@ module _ (m : Machine) where
   anew b w (of a q) = w
 
   abbrev pub alone_step : Book → World → Kept X Q → Ran R
-  alone_step b w k = step m b (if k.binds then anew b w k.step else w) k.step
+  alone_step b w k = step m b (when k.binds then anew b w k.step else w) k.step
 
   abbrev pub after_alone : Book → World → List (Kept X Q) → World
   after_alone b w [] = w

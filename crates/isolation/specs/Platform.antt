@@ -2,7 +2,7 @@
 -- `Machine`; by the types of its parts, an account's function sees of table, last ids and receipts that account's own alone, and an open session's
 -- function sees none of them.
 use Rattle.std.specs.Prelude.{ℕ, ◌*◌, Bool, List, ltb, leb, eqb, length, replicate}
-use Rattle.octets.specs.Choice.{if◌then◌else◌}
+use Rattle.octets.specs.Choice.{when◌then◌else◌}
 use Rattle.octets.specs.Stretch.{part, patch}
 pub use Rattle.records.specs.Layout.{part_size, table_size}
 use Rattle.session.specs.State.{session_count, account_count, entry_at, last_at, receipts_of, bound, issued, granted, opened, closed}
@@ -129,10 +129,10 @@ module _ (m : Machine) where
 
   -- a session that ends, or goes on as it was; then what the account gives is put
   abbrev pub conclude : World → ℕ → ℕ → Effect Own R → Ran R
-  conclude w s a r = put (if r.ends then put_entry w s Ended else w) a r
+  conclude w s a r = put (when r.ends then put_entry w s Ended else w) a r
 
   abbrev pub on_account : Book → World → ℕ → X → Entry → ℕ → Ran R
-  on_account b w s x e a = if ltb a account_count then conclude w s a (ask b w a (on_session s e x)) else unchanged w (refused_on 9 x)
+  on_account b w s x e a = when ltb a account_count then conclude w s a (ask b w a (on_session s e x)) else unchanged w (refused_on 9 x)
 
   abbrev pub on_entry : Book → World → ℕ → X → Entry → Ran R
   on_entry b w s x Closed = unchanged w (refused_on 6 x)
@@ -142,18 +142,18 @@ module _ (m : Machine) where
   on_entry b w s x Ended = unchanged w (refused_on 6 x)
 
   abbrev pub on_after : ℕ → Book → World → ℕ → X → Ran R
-  on_after n b w s x = if eqb n 0 then on_entry b w s x (entry_at w.state s) else unchanged w (refused_on n x)
+  on_after n b w s x = when eqb n 0 then on_entry b w s x (entry_at w.state s) else unchanged w (refused_on n x)
 
   -- ---- of an account: what the arguments give, 7, and then what the account makes of it
 
   abbrev pub of_after : ℕ → Book → World → ℕ → Q → Ran R
   of_after n b w a q =
-      if eqb n 0
-      then (if ltb a account_count then put w a (ask b w a (of_account q)) else unchanged w (refused_of 7 q))
+      when eqb n 0
+      then (when ltb a account_count then put w a (ask b w a (of_account q)) else unchanged w (refused_of 7 q))
       else unchanged w (refused_of n q)
 
   unfoldable pub step : Book → World → Step X Q → Ran R
   step b w (opens s) = move w (opened w.state s)
   step b w (closes s) = move w (closed w.state s)
-  step b w (on s x) = if leb session_count s then unchanged w (refused_on 2 x) else on_after (early_on b (length w.table) x) b w s x
+  step b w (on s x) = when leb session_count s then unchanged w (refused_on 2 x) else on_after (early_on b (length w.table) x) b w s x
   step b w (of a q) = of_after (early_of b (length w.table) q) b w a q

@@ -1,13 +1,13 @@
 -- The text of a line (document 01, "The printing program"): answer, consumed count, and the reply in upper-case hex or "-".
 use Rattle.std.specs.Prelude.{ℕ, zero, suc, ◌/◌, ◌%◌, ◌^◌, List, [], ◌∷◌, ◌++◌, ltb}
-use Rattle.octets.specs.Choice.{if◌then◌else◌}
+use Rattle.octets.specs.Choice.{when◌then◌else◌}
 use Rattle.octets.specs.Number.{hex_digit}
 use Rattle.io.specs.Digits.{last_digits}
 
 -- the first of k, k + 1, .., k + more digits that hold n
 unfoldable pub width_from : ℕ → ℕ → ℕ → ℕ
 width_from zero k n = k
-width_from (suc more) k n = if ltb n (10 ^ k) then k else width_from more (suc k) n
+width_from (suc more) k n = when ltb n (10 ^ k) then k else width_from more (suc k) n
 
 -- a 64-bit number as its decimal digits, of which there are 1 to 20
 unfoldable pub decimal : ℕ → List ℕ

@@ -1,6 +1,6 @@
 -- A record of the input (document 01, "The printing program"): kind, session, length (two octets, high first), stamp 16, payload 512, zeros 12.
 use Rattle.std.specs.Prelude.{ℕ, ◌+◌, ◌*◌, ◌≤◌, ◌≡◌, not, List, leb, eqb, length, get_or}
-use Rattle.octets.specs.Choice.{if◌then◌else◌}
+use Rattle.octets.specs.Choice.{when◌then◌else◌}
 use Rattle.octets.specs.Stretch.{part}
 use Rattle.octets.specs.Number.{number}
 use Rattle.forms.specs.Time.{time_length}
@@ -40,11 +40,11 @@ outcome_of r = record { stamp = stamp_of r; id = number (part 21 4 r); state = g
 -- kinds 0 open, 1 octets, 2 close, 3 outcome; bad: an unknown kind, a kind 1 length above 512, an outcome length other than 7, a cut record
 unfoldable pub order_of : List ℕ → Order
 order_of r =
-    if not (eqb (length r) record_size) then Bad
-    else if eqb (kind_of r) 0 then Open
-    else if eqb (kind_of r) 1 then (if leb (length_of r) payload_size then Octets else Bad)
-    else if eqb (kind_of r) 2 then Close
-    else if eqb (kind_of r) 3 then (if eqb (length_of r) 7 then O.Outcome else Bad)
+    when not (eqb (length r) record_size) then Bad
+    else when eqb (kind_of r) 0 then Open
+    else when eqb (kind_of r) 1 then (when leb (length_of r) payload_size then Octets else Bad)
+    else when eqb (kind_of r) 2 then Close
+    else when eqb (kind_of r) 3 then (when eqb (length_of r) 7 then O.Outcome else Bad)
     else Bad
 
 -- what an order tells of its record

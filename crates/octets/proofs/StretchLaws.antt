@@ -10,7 +10,7 @@ use lib.ListN.{length, take, drop, get_or, set, replicate, length-take, length-d
 use lib.Seq.{drop-cons, take-nil, take_all, take-take, drop-drop, drop-length}
 use lib.Dec.{eqb}
 use borrow.Author.Tests.{eqb-true, eq-eqb}
-use Rattle.octets.specs.Choice.{if◌then◌else◌}
+use Rattle.octets.specs.Choice.{when◌then◌else◌}
 use Rattle.octets.specs.Stretch.{same, every, zeros, among, part}
 
 -- ---- tests that hold together
@@ -64,18 +64,18 @@ or-false false = refl
 
 -- ---- a choice, by cases on its test
 
-pub if-cases : {A : Type 0} (P : A → Type 0) (t : Bool) (a b : A) → (t ≡ true → P a) → (t ≡ false → P b) → P (if t then a else b)
-unfolding if◌then◌else◌
+pub if-cases : {A : Type 0} (P : A → Type 0) (t : Bool) (a b : A) → (t ≡ true → P a) → (t ≡ false → P b) → P (when t then a else b)
+unfolding when◌then◌else◌
 if-cases P true a b p q = p refl
 if-cases P false a b p q = q refl
 
-pub if-true : {A : Type 0} (t : Bool) (a b : A) → t ≡ true → (if t then a else b) ≡ a
-unfolding if◌then◌else◌
+pub if-true : {A : Type 0} (t : Bool) (a b : A) → t ≡ true → (when t then a else b) ≡ a
+unfolding when◌then◌else◌
 if-true true a b h = refl
 if-true false a b h = absurd (false≢true h)
 
-pub if-false : {A : Type 0} (t : Bool) (a b : A) → t ≡ false → (if t then a else b) ≡ b
-unfolding if◌then◌else◌
+pub if-false : {A : Type 0} (t : Bool) (a b : A) → t ≡ false → (when t then a else b) ≡ b
+unfolding when◌then◌else◌
 if-false true a b h = absurd (false≢true (sym h))
 if-false false a b h = refl
 

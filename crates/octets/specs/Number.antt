@@ -1,6 +1,6 @@
 -- Numbers in octets, the most significant first, and as hex digits.
 use Rattle.std.specs.Prelude.{ℕ, ◌+◌, ◌*◌, ◌/◌, ◌%◌, List, [], ◌∷◌, ltb}
-use Rattle.octets.specs.Choice.{if◌then◌else◌}
+use Rattle.octets.specs.Choice.{when◌then◌else◌}
 
 -- the number that digits of a base write onto a number that stands before them
 unfoldable pub onto : ℕ → ℕ → List ℕ → ℕ
@@ -17,7 +17,7 @@ octets4 n = n / 16777216 % 256 ∷ n / 65536 % 256 ∷ n / 256 % 256 ∷ n % 256
 
 -- the upper-case hex digit of a number below 16: "0" to "9", "A" to "F"
 unfoldable pub hex_digit : ℕ → ℕ
-hex_digit d = if ltb d 10 then d + 48 else d + 55
+hex_digit d = when ltb d 10 then d + 48 else d + 55
 
 -- a 32-bit number as eight upper-case hex digits
 unfoldable pub hex8 : ℕ → List ℕ

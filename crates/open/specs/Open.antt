@@ -1,6 +1,6 @@
 -- Octets on an open session (document 01, "From octets to a response" and "Effects"): it has no account, and the table has no say.
 use Rattle.std.specs.Prelude.{ℕ, Bool, true, false, not, List, eqb, length, take, drop}
-use Rattle.octets.specs.Choice.{if◌then◌else◌}
+use Rattle.octets.specs.Choice.{when◌then◌else◌}
 use Rattle.forms.specs.declared.text.MessageId.TheVariants.{Empty}
 use Rattle.wire.specs.Status.{invalid_command_id, invalid_bind_status, invalid_password}
 use Rattle.wire.specs.Frame.{frame_of, header_of}
@@ -35,9 +35,9 @@ unfoldable pub bind_to : Bool → List ℕ → List ℕ → Bound
 bind_to receiver book body =
     let read = bind_of body in
     let b = read.request in
-    if not (eqb read.status 0) then not_bound read.status
+    when not (eqb read.status 0) then not_bound read.status
     else on_found (named_place (octets_of b.system body) (octets_of b.kind body) book)
-    (λ a. if password_is (octets_of b.password body) (book_record a book) then record { status = 0; entry = leg_of receiver a } else not_bound invalid_password)
+    (λ a. when password_is (octets_of b.password body) (book_record a book) then record { status = 0; entry = leg_of receiver a } else not_bound invalid_password)
     (not_bound invalid_password)
 
 -- ---- each request

@@ -6,7 +6,7 @@ use mathlib.Core.Bool.{Bool}
 use mathlib.Core.List.{List, []}
 use lib.ListN.{set}
 use lib.Seq.{set-get_or}
-use Rattle.octets.specs.Choice.{if◌then◌else◌}
+use Rattle.octets.specs.Choice.{when◌then◌else◌}
 use Rattle.octets.specs.Stretch.{patch}
 use Rattle.octets.proofs.StretchLaws.{if-cases}
 use Rattle.octets.proofs.PatchLaws.{patch-none}
@@ -32,7 +32,7 @@ module _ (w : World) where
 
   -- on a session that goes on
   pub concluded-back : (s a : ℕ) (answer : Answer) → conclude centre w s a (keeping answer (own_of w a)) ≡ unchanged centre w answer
-  unfolding if◌then◌else◌
+  unfolding when◌then◌else◌
   concluded-back s a answer = account-back a answer
 
   -- a pick: a number other than 0, or a place and the record there
@@ -51,7 +51,7 @@ module _ (w : World) where
 
   -- whatever its receipts, and whether the session ends or goes on
   pub stored_back : (s a : ℕ) (ends : Bool) (part : List ℕ) (last : ℕ) → part ≡ (own_of w a).part → last ≡ (own_of w a).last
-      → SameStored (put_own (if ends then put_entry w s Ended else w) a (owning part last []))
+      → SameStored (put_own (when ends then put_entry w s Ended else w) a (owning part last []))
   stored_back s a ends part last p l =
       let both : SameStored (put_own w a (owning part last [])) = (
         ap (patch w.table (part_size * a)) p ∙ patch-none w.table (part_size * a) part_size,

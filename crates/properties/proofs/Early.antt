@@ -6,7 +6,7 @@ use mathlib.Core.Bool.{true, false, not}
 use mathlib.Core.List.{List}
 use lib.Dec.{ltb}
 use borrow.Author.Tests.{ltb-false, le-ltb, not-false}
-use Rattle.octets.specs.Choice.{if◌then◌else◌}
+use Rattle.octets.specs.Choice.{when◌then◌else◌}
 use Rattle.octets.proofs.StretchLaws.{if-cases}
 use Rattle.forms.specs.Time.{sent_time}
 use Rattle.answers.specs.Reply.{space_needed}
@@ -41,7 +41,7 @@ module _ (book table : ℕ) where
       if-cases P (ltb space longest_delivery) _ _ (λ _ z. absurd (omega arith)) λ room _. (right-sizes right, ltb-false space longest_delivery room)
 
   pub delivery-ready : (space : ℕ) → book ≡ book_size → table ≡ table_size → longest_delivery ≤ space → delivery_early book table space ≡ 0
-  unfolding delivery_early if◌then◌else◌
+  unfolding delivery_early when◌then◌else◌
   delivery-ready space b t room = rw (b, t, le-ltb space longest_delivery room)
 
   pub early-outcome : (stamp : List ℕ) → outcome_early book table stamp ≡ 0 → Sizes × (sent_time stamp ≡ true)

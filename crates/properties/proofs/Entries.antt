@@ -6,7 +6,7 @@ use mathlib.Core.List.{List, [], ◌∷◌}
 use lib.ListN.{get_or, set}
 use lib.ListN as L
 use borrow.Author.Tests.{eqb-true}
-use Rattle.octets.specs.Choice.{if◌then◌else◌}
+use Rattle.octets.specs.Choice.{when◌then◌else◌}
 use Rattle.octets.proofs.StretchLaws.{if-cases}
 use Rattle.wire.specs.Status.{invalid_password}
 use Rattle.wire.specs.Fields.{octets_of}
@@ -66,7 +66,7 @@ module _ (book : List ℕ) where
       let refused : Leads Open = unbound Open (λ _. refl) in
       read-cases Q (bind_of body).status _ _ (λ _. refused) λ _.
       found-cases Q (named_place (octets_of b.system body) (octets_of b.kind body) book)
-      (λ a. if password_is (octets_of b.password body) (book_record a book) then record { status = 0; entry = leg_of receiver a } else not_bound invalid_password)
+      (λ a. when password_is (octets_of b.password body) (book_record a book) then record { status = 0; entry = leg_of receiver a } else not_bound invalid_password)
       (not_bound invalid_password)
       (λ a e. let n = found-used _ _ book a e in
       if-cases Q (password_is (octets_of b.password body) (book_record a book)) _ _ (λ _. leg-leads receiver a (record { below = n.0; used = n.1 })) (λ _. refused))
@@ -118,7 +118,7 @@ module _ (book : List ℕ) where
           front = λ _ _. become-lead s (on_front book x).after (front-leads x);
           asked = λ _ a e _.
               let r = ask centre book w a (on_session s e x) in
-              own-lead (if r.ends then put_entry w s Ended else w) a r.own
+              own-lead (when r.ends then put_entry w s Ended else w) a r.own
               (if-cases AllLead r.ends (put_entry w s Ended) w (λ _. put-lead s Ended (unbound Ended (λ _. refl))) (λ _. h));
         })
     step-lead (of a q) = of-cases book w a q AllAfter (λ _ _. h) (λ _ _. own-lead w a (ask centre book w a (of_account q)).own h)

@@ -8,7 +8,7 @@ use mathlib.Core.Bool.{Bool, true, false}
 use mathlib.Core.List.{List, [], ◌∷◌, map}
 use lib.ListN.{get_or, set}
 use lib.Seq.{get_or-set_other}
-use Rattle.octets.specs.Choice.{if◌then◌else◌}
+use Rattle.octets.specs.Choice.{when◌then◌else◌}
 use Rattle.session.specs.State.{receiver_of, receipt_for, receipts_of, bound, granting, granted}
 use Rattle.session.specs.declared.Entry.{Entry}
 use Rattle.session.specs.declared.Receipt.{Receipt}
@@ -43,8 +43,8 @@ module _ (id sequence : ℕ) where
 
   -- ---- what is outstanding on an account's receivers is what they were given
 
-  given-if : (b : Bool) (r : Receipt) → (if b then r else None) ≡ Outstanding id sequence → r ≡ Outstanding id sequence
-  unfolding if◌then◌else◌
+  given-if : (b : Bool) (r : Receipt) → (when b then r else None) ≡ Outstanding id sequence → r ≡ Outstanding id sequence
+  unfolding when◌then◌else◌
   given-if true r e = e
   given-if false r e = absurd (none≢outstanding id sequence e)
 

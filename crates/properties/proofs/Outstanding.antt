@@ -6,7 +6,7 @@ use mathlib.Core.List.{List, [], ◌∷◌, map}
 use lib.Dec.{eqb}
 use lib.ListN.{get_or, set, replicate}
 use borrow.Author.Tests.{eqb-false, not-true}
-use Rattle.octets.specs.Choice.{if◌then◌else◌}
+use Rattle.octets.specs.Choice.{when◌then◌else◌}
 use Rattle.octets.specs.Stretch.{among}
 use Rattle.octets.proofs.StretchLaws.{and_left, and_right, or_left, or_right}
 use Rattle.records.specs.Layout.{places, id_of}
@@ -114,7 +114,7 @@ module _ (a : ℕ) where
 
   -- on closed sessions nothing is outstanding
   closed_none : (n s id sequence : ℕ) → get_or (map (receipt_for a) (replicate n closed_session)) s None ≡ Outstanding id sequence → ⊥
-  unfolding if◌then◌else◌
+  unfolding when◌then◌else◌
   closed_none zero s id sequence e = none≢outstanding id sequence e
   closed_none (suc n) zero id sequence e = none≢outstanding id sequence e
   closed_none (suc n) (suc s) id sequence e = closed_none n s id sequence e

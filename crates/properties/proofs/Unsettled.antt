@@ -5,7 +5,7 @@ use mathlib.Core.List.{List}
 use Prim.Native.Nat.{ℕ}
 use lib.Dec.{eqb}
 use borrow.Author.Tests.{eqb-true}
-use Rattle.octets.specs.Choice.{if◌then◌else◌}
+use Rattle.octets.specs.Choice.{when◌then◌else◌}
 use Rattle.octets.proofs.StretchLaws.{and_left, if-cases}
 use Rattle.wire.specs.Command.{Response, response_to, command_of}
 use Rattle.wire.specs.declared.frame.Header.{Header}
@@ -15,7 +15,7 @@ use Rattle.receipts.specs.DeliverSm.{deliver_id}
 use Rattle.receipts.specs.Settle.{Settled, settling, settled}
 
 pub unsettled : (h : Header) (part : List ℕ) (receipt : Receipt) → (command_of h.command ≡ Response → ⊥) → settled h receipt part ≡ settling receipt part
-unfolding settled command_of if◌then◌else◌
+unfolding settled command_of when◌then◌else◌
 unsettled h part None other = refl
 unsettled h part (Outstanding id sequence) other =
     let response = eqb h.command (response_to deliver_id) in

@@ -1,6 +1,6 @@
 -- The receipt that is written on request to a session of an account (document 02, 1).
 use Rattle.std.specs.Prelude.{ℕ, Bool, true, false, not, ◌||◌, List}
-use Rattle.octets.specs.Choice.{if◌then◌else◌}
+use Rattle.octets.specs.Choice.{when◌then◌else◌}
 use Rattle.records.specs.Layout.{id_of}
 use Rattle.store.specs.Places.{record_at, on_found}
 use Rattle.store.specs.Search.{owed_place}
@@ -35,8 +35,8 @@ refusing receipt y number = record { answer = refused_delivery number y; receipt
 -- on the account's sessions passed over
 unfoldable pub offered : Bool → List ℕ → ℕ → List ℕ → List ℕ → Receipt → Delivery → Offered
 offered receiver book last part ids receipt y =
-    if not (account_ok book last part) then refusing receipt y 9
-    else if not receiver || is_outstanding receipt then refusing receipt y 12
+    when not (account_ok book last part) then refusing receipt y 9
+    else when not receiver || is_outstanding receipt then refusing receipt y 12
     else on_found (owed_place ids part) (λ k. sent y (record_at k part)) (refusing receipt y 13)
 
 -- what the code gives, as that

@@ -1,6 +1,6 @@
 -- deliver_sm_resp (document 02, 1): what a response on a session makes of its outstanding receipt and of the account's part. Its body is not read.
 use Rattle.std.specs.Prelude.{ℕ, ◌&&◌, List, eqb}
-use Rattle.octets.specs.Choice.{if◌then◌else◌}
+use Rattle.octets.specs.Choice.{when◌then◌else◌}
 use Rattle.wire.specs.Command.{response_to}
 use Rattle.wire.specs.declared.frame.Header.{Header}
 use Rattle.store.specs.Places.{on_place, on_found}
@@ -26,6 +26,6 @@ acknowledged id part = on_found (place_of id part) (λ k. on_place unmarked k pa
 unfoldable pub settled : Header → Receipt → List ℕ → Settled
 settled h None part = settling None part
 settled h (Outstanding id sequence) part =
-    if eqb h.command (response_to deliver_id) && eqb h.sequence sequence
-    then settling None (if eqb h.status 0 then acknowledged id part else part)
+    when eqb h.command (response_to deliver_id) && eqb h.sequence sequence
+    then settling None (when eqb h.status 0 then acknowledged id part else part)
     else settling (Outstanding id sequence) part

@@ -7,7 +7,7 @@ use native.Mathlib.Omega.{arith}
 use lib.ListN.{length, drop, get_or}
 use lib.Dec.{eqb}
 use borrow.Author.Tests.{eqb-true}
-use Rattle.octets.specs.Choice.{if◌then◌else◌}
+use Rattle.octets.specs.Choice.{when◌then◌else◌}
 use Rattle.octets.specs.Stretch.{every, is_zero, zeros, part}
 use Rattle.octets.proofs.StretchLaws.{and_left, and-false, or-false, every-at, every_drop, every_take}
 use Rattle.forms.specs.Class.{lead}
@@ -60,7 +60,7 @@ zeros-part at n xs h = every_take is_zero n (drop at xs) (every_drop is_zero at 
 
 -- a text in zeros is empty, and so no callback address
 digits-not-zero : (field : List ℕ) → zeros field ≡ true → is_field Digits field ≡ false
-unfolding is_field text_of formed lead every if◌then◌else◌
+unfolding is_field text_of formed lead every when◌then◌else◌
 digits-not-zero [] h = refl
 digits-not-zero (x ∷ xs) h = rw (eqb-true x 0 (and_left (eqb x 0) (every is_zero xs) h))
 

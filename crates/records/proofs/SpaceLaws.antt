@@ -9,7 +9,7 @@ use lib.ListN.{length, take, drop, replicate, length-drop}
 use lib.Seq.{drop-append-le}
 use lib.Dec.{eqb}
 use borrow.Author.Tests.{eqb-true, eq-eqb}
-use Rattle.octets.specs.Choice.{if◌then◌else◌}
+use Rattle.octets.specs.Choice.{when◌then◌else◌}
 use Rattle.octets.specs.Stretch.{same, every, zeros, padded}
 use Rattle.octets.specs.Equivalence.{Equivalence}
 use Rattle.octets.proofs.StretchLaws.{and_left, and-true, both_ways, every_drop, same-equal, same_refl, same-lengths, same-apart, same-filled}
@@ -33,7 +33,7 @@ pub with-name : (a b : List ℕ) → same_name a b ≡ true → (r : List ℕ) �
 with-name a b h r = with-alike same_name names a b h r
 
 after-padding : (n : ℕ) (name : List ℕ) → after_spaces (replicate n 32 ++ name) ≡ after_spaces name
-unfolding after_spaces lead if◌then◌else◌
+unfolding after_spaces lead when◌then◌else◌
 after-padding zero name = refl
 after-padding (suc n) name = after-padding n name
 

@@ -1,6 +1,6 @@
 -- When a message record is well formed (document 01, "The account book and the table"; document 02, 1).
 use Rattle.std.specs.Prelude.{ℕ, Bool, not, ◌&&◌, ◌||◌, List, drop, eqb, leb}
-use Rattle.octets.specs.Choice.{if◌then◌else◌}
+use Rattle.octets.specs.Choice.{when◌then◌else◌}
 use Rattle.octets.specs.Stretch.{part, zeros}
 use Rattle.forms.specs.Class.{within}
 use Rattle.forms.specs.Text.{longest_text}
@@ -40,7 +40,7 @@ fields_ok r =
 -- the final date is a time, present exactly when the state is 2 to 5; the error code is 0 in states 1 and 4
 unfoldable pub end_ok : List ℕ → Bool
 end_ok r =
-    (if eqb (state_of r) 1 then zeros (date_of r) else stored_time (date_of r))
+    (when eqb (state_of r) 1 then zeros (date_of r) else stored_time (date_of r))
     && (eqb (error_of r) 0 || not (eqb (state_of r) 1 || eqb (state_of r) 4))
 
 -- a receipt is owed for the record

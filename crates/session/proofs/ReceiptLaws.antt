@@ -8,7 +8,7 @@ use Prim.Native.Nat.{ℕ, zero, suc}
 use lib.ListN.{length, get_or, set, get_or-map}
 use lib.Seq.{set-get_or}
 use borrow.Author.Tests.{eqb-true, ne_eqb}
-use Rattle.octets.specs.Choice.{if◌then◌else◌}
+use Rattle.octets.specs.Choice.{when◌then◌else◌}
 use Rattle.octets.proofs.StretchLaws.{if-cases}
 use Rattle.session.specs.State.{closed_session, session_with, entry_at, bound, receiver_of, receipt_for, receipts_of, held_id, held_ids, granted_to, granting, granted}
 use Rattle.session.specs.declared.Entry.{Entry}
@@ -28,15 +28,15 @@ map-set f (y ∷ ys) (suc i) x = ap (λ t. f y ∷ t) (map-set f ys i x)
 pub given-entry : (a : ℕ) (ses : Session) (r : Receipt) → (granted_to a ses r).entry ≡ ses.entry
 given-entry a ses r = if-cases (λ (y : Session). y.entry ≡ ses.entry) (receiver_of a ses.entry) _ ses (λ h. refl) (λ h. refl)
 
-pub given-receipt : (a : ℕ) (ses : Session) (r : Receipt) → receipt_for a (granted_to a ses r) ≡ (if receiver_of a ses.entry then r else None)
-unfolding if◌then◌else◌
+pub given-receipt : (a : ℕ) (ses : Session) (r : Receipt) → receipt_for a (granted_to a ses r) ≡ (when receiver_of a ses.entry then r else None)
+unfolding when◌then◌else◌
 given-receipt a ses r =
     let t = receiver_of a ses.entry in
-    if-cases (λ (y : Session). receipt_for a y ≡ (if t then r else None)) t _ ses (λ h. refl) (λ h. rw h)
+    if-cases (λ (y : Session). receipt_for a y ≡ (when t then r else None)) t _ ses (λ h. refl) (λ h. rw h)
 
 -- its own, by the test that chose it
-given-own : (t : Bool) (ses : Session) → (if t then record { entry = ses.entry; receipt = if t then ses.receipt else None } else ses) ≡ ses
-unfolding if◌then◌else◌
+given-own : (t : Bool) (ses : Session) → (when t then record { entry = ses.entry; receipt = when t then ses.receipt else None } else ses) ≡ ses
+unfolding when◌then◌else◌
 given-own true ses = refl
 given-own false ses = refl
 
@@ -49,7 +49,7 @@ one-receiver A a (Receiver b) ne h = ne_eqb b A (λ p. ne (sym p ∙ eqb-true b 
 one-receiver A a Ended ne h = refl
 
 given-other : (A a : ℕ) → A ≢ a → (ses : Session) (r : Receipt) → receipt_for A (granted_to a ses r) ≡ receipt_for A ses
-unfolding if◌then◌else◌
+unfolding when◌then◌else◌
 given-other A a ne ses r =
     if-cases (λ (y : Session). receipt_for A y ≡ receipt_for A ses) (receiver_of a ses.entry) _ ses
     (λ h. rw (one-receiver A a ses.entry ne h))
@@ -115,7 +115,7 @@ with_sessions st xs = record { sessions = xs; lasts = st.lasts }
 
 module _ (st : State) (a : ℕ) where
   pub receipts-at : (s : ℕ) → get_or (receipts_of st a) s None ≡ receipt_for a (get_or st.sessions s closed_session)
-  unfolding if◌then◌else◌
+  unfolding when◌then◌else◌
   receipts-at s = get_or-map (receipt_for a) st.sessions s closed_session
 
   pub held_at : (s : ℕ) → get_or (held_ids st a) s 0 ≡ held_id (receipt_for a (get_or st.sessions s closed_session))
@@ -133,15 +133,15 @@ module _ (st : State) (a : ℕ) where
   module _ (s : ℕ) where
     -- one receipt, on a receiver of the account's
     pub granted-noted : receiver_of a (entry_at st s) ≡ true → (r : Receipt) → granted st a (set (receipts_of st a) s r) ≡ with_sessions st (set st.sessions s (record { entry = entry_at st s; receipt = r }))
-    unfolding if◌then◌else◌
+    unfolding when◌then◌else◌
     granted-noted h r = ap (with_sessions st) (granting-one a st.sessions s r ∙ rw h)
 
     -- on another session
     pub granted-unheard : receiver_of a (entry_at st s) ≡ false → (r : Receipt) → granted st a (set (receipts_of st a) s r) ≡ st
-    unfolding if◌then◌else◌
+    unfolding when◌then◌else◌
     granted-unheard h r = ap (with_sessions st) (granting-one a st.sessions s r ∙ rw h (set-get_or st.sessions s closed_session))
 
     -- on a session that has ended
     pub granted-ended : (r : Receipt) → granted (bound st s Ended) a (set (receipts_of st a) s r) ≡ bound st s Ended
-    unfolding if◌then◌else◌
+    unfolding when◌then◌else◌
     granted-ended r = ap (with_sessions st) (granting-set a st.sessions s (session_with Ended) r)

@@ -1,7 +1,7 @@
 -- The state and what opening, closing, binding and unbinding make of it (document 01, "What the centre does" and "Numbers a caller gets"), and the
 -- receipts that are outstanding (document 02, 1).
 use Rattle.std.specs.Prelude.{ℕ, Bool, true, false, List, [], ◌∷◌, map, get_or, set, replicate, leb, eqb}
-use Rattle.octets.specs.Choice.{if◌then◌else◌}
+use Rattle.octets.specs.Choice.{when◌then◌else◌}
 pub use Rattle.records.specs.Layout.{account_count}
 use Rattle.session.specs.declared.Entry.{Entry}
 use Rattle.session.specs.declared.Entry.TheVariants.{Closed, Open, Transmitter, Receiver, Ended}
@@ -57,7 +57,7 @@ receiver_of a (Receiver b) = eqb b a
 receiver_of a Ended = false
 
 abbrev pub receipt_for : ℕ → Session → Receipt
-receipt_for a ses = if receiver_of a ses.entry then ses.receipt else None
+receipt_for a ses = when receiver_of a ses.entry then ses.receipt else None
 
 -- the receipts of account a, session by session
 abbrev pub receipts_of : State → ℕ → List Receipt
@@ -77,7 +77,7 @@ held_ids st a = map held_id (receipts_of st a)
 
 -- account a's receivers with these receipts, session by session; every other session as it was
 abbrev pub granted_to : ℕ → Session → Receipt → Session
-granted_to a ses r = if receiver_of a ses.entry then record { entry = ses.entry; receipt = r } else ses
+granted_to a ses r = when receiver_of a ses.entry then record { entry = ses.entry; receipt = r } else ses
 
 unfoldable pub granting : ℕ → List Session → List Receipt → List Session
 granting a [] rs = []
@@ -101,8 +101,8 @@ opened_from st s Ended = moved 6 st
 
 -- opening tests 2, 6
 unfoldable pub opened : State → ℕ → Moved
-opened st s = if leb session_count s then moved 2 st else opened_from st s (entry_at st s)
+opened st s = when leb session_count s then moved 2 st else opened_from st s (entry_at st s)
 
 -- closing tests 2; it succeeds from any entry and leaves closed
 unfoldable pub closed : State → ℕ → Moved
-closed st s = if leb session_count s then moved 2 st else moved 0 (bound st s Closed)
+closed st s = when leb session_count s then moved 2 st else moved 0 (bound st s Closed)

@@ -1,7 +1,7 @@
 -- Whose message it is (document 01, "Effects"): an empty source means the callback's ton, npi and address; otherwise all three come from the
 -- request. And the record that a message id names.
 use Rattle.std.specs.Prelude.{ℕ, Bool, List, get_or, eqb}
-use Rattle.octets.specs.Choice.{if◌then◌else◌}
+use Rattle.octets.specs.Choice.{when◌then◌else◌}
 use Rattle.forms.specs.declared.text.MessageId.{MessageId}
 use Rattle.forms.specs.declared.text.MessageId.TheVariants.{Empty, Number}
 use Rattle.records.specs.Book.{callback_of}
@@ -14,7 +14,7 @@ abbrev pub no_address : List ℕ → Bool
 no_address address = eqb (get_or address 2 0) 0
 
 unfoldable pub source_for : List ℕ → List ℕ → List ℕ
-source_for book source = if no_address source then callback_of book else source
+source_for book source = when no_address source then callback_of book else source
 
 -- an empty id names no record
 unfoldable pub known : MessageId → List ℕ → Found

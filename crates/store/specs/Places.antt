@@ -1,6 +1,6 @@
 -- The sixteen places of an account, as a list of records, and the lowest of those that pass a test.
 use Rattle.std.specs.Prelude.{ℕ, zero, suc, ◌+◌, ◌*◌, ◌<◌, Bool, true, false, not, ◌&&◌, ◌||◌, List, [], ◌∷◌, ltb}
-use Rattle.octets.specs.Choice.{if◌then◌else◌}
+use Rattle.octets.specs.Choice.{when◌then◌else◌}
 use Rattle.octets.specs.Stretch.{part, patch}
 use Rattle.octets.specs.Lent.{Lent, lent_part}
 use Rattle.octets.specs.Rows.{rows}
@@ -44,10 +44,10 @@ none = record { found = false; rank = 0; place = 0 }
 -- the record at k takes the place of the best so far if it passes and ranks lower
 unfoldable pub keep : (List ℕ → Bool) → (List ℕ → ℕ) → Best → ℕ → List ℕ → Best
 keep passes rank b k r =
-    if passes r && (not b.found || ltb (rank r) b.rank) then record { found = true; rank = rank r; place = k } else b
+    when passes r && (not b.found || ltb (rank r) b.rank) then record { found = true; rank = rank r; place = k } else b
 
 abbrev pub found_of : Best → Found
-found_of b = if b.found then At b.place else Nowhere
+found_of b = when b.found then At b.place else Nowhere
 
 -- of the records that pass, the place of the one that ranks lowest, the first of equals
 unfoldable pub lowest : (List ℕ → Bool) → (List ℕ → ℕ) → List (List ℕ) → Found

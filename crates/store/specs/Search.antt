@@ -1,6 +1,6 @@
 -- What is looked for in an account's sixteen places (document 01, "Effects"; document 02, 1).
 use Rattle.std.specs.Prelude.{ℕ, ◌+◌, Bool, not, ◌&&◌, List, eqb}
-use Rattle.octets.specs.Choice.{if◌then◌else◌}
+use Rattle.octets.specs.Choice.{when◌then◌else◌}
 use Rattle.forms.specs.Class.{within}
 use Rattle.records.specs.Layout.{account_count, state_of, id_of, source_of, destination_of, priority_of}
 use Rattle.octets.specs.Rows.{rows}
@@ -35,7 +35,7 @@ between source destination r = same_address (source_of r) source && same_address
 
 -- priority 1 before priority 0, then lowest id: ids have 32 bits
 abbrev pub turn : List ℕ → ℕ
-turn r = if eqb (priority_of r) 1 then id_of r else id_of r + 4294967296
+turn r = when eqb (priority_of r) 1 then id_of r else id_of r + 4294967296
 
 -- ---- the searches
 

@@ -1,6 +1,6 @@
 -- submit_sm (document 01, "Effects").
 use Rattle.std.specs.Prelude.{ℕ, ◌+◌, not, List, eqb}
-use Rattle.octets.specs.Choice.{if◌then◌else◌}
+use Rattle.octets.specs.Choice.{when◌then◌else◌}
 use Rattle.forms.specs.declared.text.MessageId.{MessageId}
 use Rattle.forms.specs.declared.text.MessageId.TheVariants.{Empty, Number}
 use Rattle.wire.specs.Status.{system_error, invalid_destination, queue_full}
@@ -51,7 +51,7 @@ fields_of source s =
 -- 0xFFFFFFFF: status 8. Then no empty and no overwritable place (document 02, 1): 20. Neither issues an id
 unfoldable pub added : List ℕ → Submit → List ℕ → List ℕ → ℕ → Submitted
 added source s body part last =
-    if eqb last 0xFFFFFFFF then refused system_error part last
+    when eqb last 0xFFFFFFFF then refused system_error part last
     else on_found (new_place part)
     (λ k. record {
       status = 0;
@@ -63,7 +63,7 @@ added source s body part last =
 
 -- with the replace flag set, the lowest-id waiting record with equal source and destination
 abbrev pub to_replace : List ℕ → Submit → List ℕ → Found
-to_replace source s part = if eqb s.replace 1 then pair_place source s.destination.octets part else Nowhere
+to_replace source s part = when eqb s.replace 1 then pair_place source s.destination.octets part else Nowhere
 
 -- it gets the new text, length and default id, and its id is returned
 unfoldable pub stored : List ℕ → Submit → List ℕ → List ℕ → ℕ → Submitted
@@ -82,6 +82,6 @@ unfoldable pub submitted : List ℕ → List ℕ → List ℕ → ℕ → Submit
 submitted book body part last =
     let read = submit_of body in
     let s = read.request in
-    if not (eqb read.status 0) then refused read.status part last
-    else if no_address s.destination.octets then refused invalid_destination part last
+    when not (eqb read.status 0) then refused read.status part last
+    else when no_address s.destination.octets then refused invalid_destination part last
     else stored (source_for book s.source.octets) s body part last

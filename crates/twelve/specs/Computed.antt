@@ -1,5 +1,5 @@
 -- Every definition that the centre's `step` is made of, so that an example opens them all by one name.
-use Rattle.octets.specs.Choice.{if◌then◌else◌}
+use Rattle.octets.specs.Choice.{when◌then◌else◌}
 use Rattle.octets.specs.Number.{onto, octets4, hex_digit, hex8}
 use Rattle.octets.specs.Rows.{rows}
 use Rattle.octets.specs.Stretch.{patch, same, every}
@@ -42,5 +42,5 @@ use Rattle.centre.specs.Operations.{noted, picked_from}
 use Rattle.centre.specs.Centre.{octets_early, delivery_early, outcome_early, pick_early, on_octets, on_delivery, act}
 
 unfoldable pub computed : Unit {0}
-unfolding if◌then◌else◌ onto octets4 hex_digit hex8 rows patch same every lead text_of is_field after_spaces formed nibble message_id two_digits is_time sent_time stored_time not_both end_of octet_at text_at address_at id_at time_at span_at short_at frame_of command_of header_of header reply id_text query_body over bind_of submit_of query_of cancel_of replace_of plain_of apart places_ok account_ok book_ok used_ok same_name same_system_id same_address named password_is new_record finished unmarked retexted corrected Places.over keep lowest on_places text_ok fields_ok end_ok mark_ok message_ok record_ok or_else source_for known added stored submitted looked_up queried cancellable cancelled_one deleted_if cancelled_all cancelled replaced_in replaced reported granting opened closed receipt_text sent_address deliver_body sent offered acknowledged settled fresh step bind_to open_bind on_open submit_turn query_turn cancel_turn replace_turn unbind_turn replying settled_by on_bound noted picked_from octets_early delivery_early outcome_early pick_early on_octets on_delivery act
+unfolding when◌then◌else◌ onto octets4 hex_digit hex8 rows patch same every lead text_of is_field after_spaces formed nibble message_id two_digits is_time sent_time stored_time not_both end_of octet_at text_at address_at id_at time_at span_at short_at frame_of command_of header_of header reply id_text query_body over bind_of submit_of query_of cancel_of replace_of plain_of apart places_ok account_ok book_ok used_ok same_name same_system_id same_address named password_is new_record finished unmarked retexted corrected Places.over keep lowest on_places text_ok fields_ok end_ok mark_ok message_ok record_ok or_else source_for known added stored submitted looked_up queried cancellable cancelled_one deleted_if cancelled_all cancelled replaced_in replaced reported granting opened closed receipt_text sent_address deliver_body sent offered acknowledged settled fresh step bind_to open_bind on_open submit_turn query_turn cancel_turn replace_turn unbind_turn replying settled_by on_bound noted picked_from octets_early delivery_early outcome_early pick_early on_octets on_delivery act
 computed = tt

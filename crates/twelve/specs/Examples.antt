@@ -1,6 +1,6 @@
 -- The twelve examples of document 01, P1 to P12: one table, one claim, over the very `step` that the contracts of the code cite.
 use Rattle.std.specs.Prelude.{ℕ, ◌+◌, ◌*◌, ◌-◌, ◌≡◌, refl, List, [], ◌∷◌, ◌++◌, take, get_or, replicate, eqb}
-use Rattle.octets.specs.Choice.{if◌then◌else◌}
+use Rattle.octets.specs.Choice.{when◌then◌else◌}
 use Rattle.octets.specs.Rows.{rows}
 use Rattle.forms.specs.declared.text.MessageId.TheVariants.{Number}
 use Rattle.wire.specs.Cursor.{start}
@@ -31,7 +31,7 @@ abbrev pub held_from : ℕ → List (List ℕ) → List Held
 held_from k [] = []
 held_from k (r ∷ rs) =
     let rest = held_from (k + 1) rs in
-    if eqb (get_or r 0 0) 0 then rest else record { place = k; octets = take 5 r } ∷ rest
+    when eqb (get_or r 0 0) 0 then rest else record { place = k; octets = take 5 r } ∷ rest
 
 abbrev pub held : List ℕ → List Held
 held table = held_from 0 (rows record_size (places * account_count) table)

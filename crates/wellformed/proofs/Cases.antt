@@ -6,7 +6,7 @@ use Prim.Native.Nat.{ℕ}
 use native.Mathlib.Omega.{arith}
 use lib.Dec.{eqb}
 use borrow.Author.Tests.{eqb-true, eqb-false, not-true, not-false}
-use Rattle.octets.specs.Choice.{if◌then◌else◌}
+use Rattle.octets.specs.Choice.{when◌then◌else◌}
 use Rattle.octets.proofs.StretchLaws.{and_left, and_right, if-cases}
 use Rattle.forms.specs.declared.text.MessageId.{MessageId}
 use Rattle.forms.specs.declared.text.MessageId.TheVariants.{Empty, Number}
@@ -40,7 +40,7 @@ found-cases P Nowhere here nowhere p q = q refl
 
 -- a refused body
 pub read-cases : {A : Type 0} (P : A → Type 0) (status : ℕ) (a b : A)
-    → ((status ≡ 0 → ⊥) → P a) → (status ≡ 0 → P b) → P (if not (eqb status 0) then a else b)
+    → ((status ≡ 0 → ⊥) → P a) → (status ≡ 0 → P b) → P (when not (eqb status 0) then a else b)
 read-cases P status a b p q =
     if-cases P (not (eqb status 0)) a b (λ h. p (eqb-false status 0 (not-true (eqb status 0) h))) (λ h. q (eqb-true status 0 (not-false (eqb status 0) h)))
 

@@ -8,7 +8,7 @@ use native.Mathlib.Omega.{arith}
 use lib.ListN.{get_or}
 use lib.Dec.{eqb, leb}
 use borrow.Author.Tests.{eqb-true, eqb-false, eq-eqb, ne_eqb, leb-true, le-leb}
-use Rattle.octets.specs.Choice.{if◌then◌else◌}
+use Rattle.octets.specs.Choice.{when◌then◌else◌}
 use Rattle.octets.specs.Stretch.{every, zeros}
 use Rattle.octets.proofs.StretchLaws.{and_left, and_right, and_both, if-cases, if-true, if-false}
 use Rattle.forms.specs.Class.{within}
@@ -71,7 +71,7 @@ module _ (r : List ℕ) where
   end_of : within 1 5 (state_of r) ≡ true → end_ok r ≡ true → GoodEnd r
   unfolding end_ok
   end_of s h =
-      let dated = if eqb (state_of r) 1 then zeros (date_of r) else stored_time (date_of r) in
+      let dated = when eqb (state_of r) 1 then zeros (date_of r) else stored_time (date_of r) in
       let q = both dated _ h in
       record {
         state_low = within_low 1 5 (state_of r) s;

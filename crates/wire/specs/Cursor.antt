@@ -1,7 +1,7 @@
 -- Where the next field of a body starts, and the status of the first field that was refused, 0 where none was. Fields go from left to right:
 -- behind a refusal none is looked at.
 use Rattle.std.specs.Prelude.{ℕ, ◌+◌, Bool, not, ◌&&◌, List, length, ltb, eqb}
-use Rattle.octets.specs.Choice.{if◌then◌else◌}
+use Rattle.octets.specs.Choice.{when◌then◌else◌}
 use Rattle.wire.specs.Status.{invalid_command_length}
 use Rattle.wire.specs.declared.cursor.Cursor.{Cursor}
 
@@ -20,11 +20,11 @@ beyond c n = record { at = c.at + n; status = 0 }
 
 -- refused where both values are given
 unfoldable pub not_both : ℕ → ℕ → ℕ → Cursor → Cursor
-not_both a b bad c = if eqb c.status 0 && not (eqb a 0) && not (eqb b 0) then refuse c bad else c
+not_both a b bad c = when eqb c.status 0 && not (eqb a 0) && not (eqb b 0) then refuse c bad else c
 
 -- the status of a whole body: octets remain: 2
 unfoldable pub end_of : List ℕ → Cursor → ℕ
 end_of body c =
-    if refused c then c.status
-    else if ltb c.at (length body) then invalid_command_length
+    when refused c then c.status
+    else when ltb c.at (length body) then invalid_command_length
     else 0

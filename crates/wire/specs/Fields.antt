@@ -1,6 +1,6 @@
 -- The fields of a body and their status (document 01, "Fields and their status"), each read at a cursor.
 use Rattle.std.specs.Prelude.{ℕ, ◌+◌, ◌≤◌, ◌&&◌, List, ◌∷◌, length, get_or, take, drop, replicate, ltb, leb, eqb}
-use Rattle.octets.specs.Choice.{if◌then◌else◌}
+use Rattle.octets.specs.Choice.{when◌then◌else◌}
 use Rattle.octets.specs.Stretch.{part, padded}
 use Rattle.octets.specs.Lent.{Lent, lent_part}
 use Rattle.forms.specs.Class.{in_class, lead}
@@ -26,9 +26,9 @@ no_octet next = record { value = 0; next = next }
 
 unfoldable pub octet_at : ℕ → ℕ → List ℕ → Cursor → OctetRead
 octet_at most bad body c =
-    if refused c then no_octet c
-    else if leb (length body) c.at then no_octet (refuse c invalid_command_length)
-    else if ltb most (get_or body c.at 0) then no_octet (refuse c bad)
+    when refused c then no_octet c
+    else when leb (length body) c.at then no_octet (refuse c invalid_command_length)
+    else when ltb most (get_or body c.at 0) then no_octet (refuse c bad)
     else record { value = get_or body c.at 0; next = beyond c 1 }
 
 -- ---- a text of at most `most` octets, its NUL among them. Status 2 comes first: fewer octets than the maximum are left and none is NUL.
@@ -48,9 +48,9 @@ unfoldable pub text_at : Form → ℕ → ℕ → List ℕ → Cursor → SpanRe
 text_at form most bad body c =
     let w = window most body c in
     let n = until_nul w in
-    if refused c then no_span c
-    else if eqb n (length w) then no_span (refuse c (if ltb (length w) most then invalid_command_length else bad))
-    else if formed form (take n w) then record { value = record { from = c.at; len = n }; next = beyond c (n + 1) }
+    when refused c then no_span c
+    else when eqb n (length w) then no_span (refuse c (when ltb (length w) most then invalid_command_length else bad))
+    else when formed form (take n w) then record { value = record { from = c.at; len = n }; next = beyond c (n + 1) }
     else no_span (refuse c bad)
 
 -- a span lies in the body; the octets that it names
@@ -91,11 +91,11 @@ no_time next = record { value = record { octets = replicate time_length 0 }; nex
 unfoldable pub time_at : List ℕ → Cursor → TimeRead
 time_at body c =
     let left = drop c.at body in
-    if refused c then no_time c
-    else if empty left then no_time (refuse c invalid_command_length)
-    else if eqb (get_or left 0 0) 0 then no_time (beyond c 1)
-    else if ltb (length left) (time_length + 1) then no_time (refuse c invalid_command_length)
-    else if sent_time (take time_length left) && eqb (get_or left time_length 0) 0
+    when refused c then no_time c
+    else when empty left then no_time (refuse c invalid_command_length)
+    else when eqb (get_or left 0 0) 0 then no_time (beyond c 1)
+    else when ltb (length left) (time_length + 1) then no_time (refuse c invalid_command_length)
+    else when sent_time (take time_length left) && eqb (get_or left time_length 0) 0
     then record { value = record { octets = take time_length left }; next = beyond c (time_length + 1) }
     else no_time (refuse c invalid_parameter)
 
@@ -103,9 +103,9 @@ time_at body c =
 
 unfoldable pub span_at : ℕ → List ℕ → Cursor → SpanRead
 span_at n body c =
-    if refused c then no_span c
-    else if ltb (length (drop c.at body)) n then no_span (refuse c invalid_command_length)
-    else if eqb n 0 then no_span c
+    when refused c then no_span c
+    else when ltb (length (drop c.at body)) n then no_span (refuse c invalid_command_length)
+    else when eqb n 0 then no_span c
     else record { value = record { from = c.at; len = n }; next = beyond c n }
 
 unfoldable pub short_at : ℕ → List ℕ → Cursor → SpanRead

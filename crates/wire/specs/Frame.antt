@@ -1,7 +1,7 @@
 -- The first PDU of the octets received (document 01, "From octets to a response"), and the header (002, 6.2): command_length, command_id,
 -- command_status and sequence_number, four octets each, most significant first.
 use Rattle.std.specs.Prelude.{ℕ, ◌≤◌, ◌||◌, List, length, ltb}
-use Rattle.octets.specs.Choice.{if◌then◌else◌}
+use Rattle.octets.specs.Choice.{when◌then◌else◌}
 use Rattle.octets.specs.Stretch.{part}
 use Rattle.octets.specs.Number.{number}
 use Rattle.wire.specs.declared.frame.Frame.{Frame}
@@ -19,9 +19,9 @@ command_length octets = number (part 0 4 octets)
 
 unfoldable pub frame_of : List ℕ → Frame
 frame_of octets =
-    if ltb (length octets) 4 then More
-    else if ltb (command_length octets) shortest_pdu || ltb longest_pdu (command_length octets) then Malformed
-    else if ltb (length octets) (command_length octets) then More
+    when ltb (length octets) 4 then More
+    else when ltb (command_length octets) shortest_pdu || ltb longest_pdu (command_length octets) then Malformed
+    else when ltb (length octets) (command_length octets) then More
     else Whole (command_length octets)
 
 -- a whole PDU has a header and stands in the octets

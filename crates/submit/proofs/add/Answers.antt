@@ -4,23 +4,23 @@ use Prim.Native.Nat.{◌<◌}
 use native.Mathlib.Omega.{arith}
 use lib.ListN.{length, length-take}
 use borrow.Author.Tests.{eq-eqb, ne_eqb}
-use Rattle.octets.specs.Choice.{if◌then◌else◌}
+use Rattle.octets.specs.Choice.{when◌then◌else◌}
 use Rattle.octets.proofs.LentLaws.{held}
 use Rattle.store.specs.Places.{OnePlace}
 use Rattle.submit.specs.Submit.{added}
 use Rattle.submit.proofs.add.Goals as goal
 
 pub returns-then-last-eq-LAST_OF_ALL : goal.returns-then-last-eq-LAST_OF_ALL
-unfolding added if◌then◌else◌
+unfolding added when◌then◌else◌
 returns-then-last-eq-LAST_OF_ALL c = rw (eq-eqb _ _ c.if-last-eq-LAST_OF_ALL.true, c.refuse.ensures)
 
 pub returns-in_default : goal.returns-in_default
-unfolding added if◌then◌else◌
+unfolding added when◌then◌else◌
 returns-in_default c = rw (ne_eqb _ _ c.if-last-eq-LAST_OF_ALL.false, sym c.find_new-found.ensures.0 ∙ c.in_default.is, c.refuse-in_default.ensures)
 
 pub put_new-requires : goal.put_new-requires
 put_new-requires c = let b : c.in-At.k < 16 = subst OnePlace c.in-At.is c.find_new-found.ensures.1 in omega (arith, simp length-take at (ap length (held c.octets_of.ensures)), simp length-take at (ap length (held c.octets_of-2.ensures)))
 
 pub returns : goal.returns
-unfolding added if◌then◌else◌
+unfolding added when◌then◌else◌
 returns c = rw (ne_eqb _ _ c.if-last-eq-LAST_OF_ALL.false, sym c.find_new-found.ensures.0 ∙ c.in-At.is, ← (held c.octets_of.ensures), ← (held c.octets_of-2.ensures), ← c.fields_of.ensures, c.put_new.ensures)

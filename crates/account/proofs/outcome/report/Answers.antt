@@ -2,7 +2,7 @@
 use mathlib.Core.Path.{sym, ◌∙◌, subst}
 use Prim.Native.Nat.{◌<◌}
 use native.Mathlib.Omega.{arith}
-use Rattle.octets.specs.Choice.{if◌then◌else◌}
+use Rattle.octets.specs.Choice.{when◌then◌else◌}
 use Rattle.store.specs.Places.{OnePlace}
 use Rattle.account.specs.Outcome.{reported}
 use Rattle.account.proofs.outcome.report.Goals as goal
@@ -15,12 +15,12 @@ pub is_waiting_at-requires : goal.is_waiting_at-requires
 is_waiting_at-requires c = let b : c.in-At.k < 16 = subst OnePlace c.in-At.is c.find_id-found.ensures.1 in omega arith
 
 pub returns-then-not-is_waiting_at : goal.returns-then-not-is_waiting_at
-unfolding reported if◌then◌else◌
+unfolding reported when◌then◌else◌
 returns-then-not-is_waiting_at c = rw (sym c.find_id-found.ensures.0 ∙ c.in-At.is, sym c.is_waiting_at.ensures ∙ c.if-not-is_waiting_at.true)
 
 pub finish-requires : goal.finish-requires
 finish-requires c = let b : c.in-At.k < 16 = subst OnePlace c.in-At.is c.find_id-found.ensures.1 in omega arith
 
 pub returns : goal.returns
-unfolding reported if◌then◌else◌
+unfolding reported when◌then◌else◌
 returns c = rw (sym c.find_id-found.ensures.0 ∙ c.in-At.is, sym c.is_waiting_at.ensures ∙ c.if-not-is_waiting_at.false, c.finish.ensures)

@@ -2,7 +2,7 @@
 use mathlib.Core.Path.{sym, ◌∙◌, subst}
 use Prim.Native.Nat.{◌<◌}
 use native.Mathlib.Omega.{arith}
-use Rattle.octets.specs.Choice.{if◌then◌else◌}
+use Rattle.octets.specs.Choice.{when◌then◌else◌}
 use Rattle.octets.proofs.LentLaws.{held}
 use Rattle.store.specs.Places.{OnePlace}
 use Rattle.account.specs.Query.{looked_up}
@@ -16,9 +16,9 @@ pub record_at-r-requires : goal.record_at-r-requires
 record_at-r-requires c = let b : c.in-At.k < 16 = subst OnePlace c.in-At.is c.find_known-found.ensures.1 in omega arith
 
 pub returns-then-is_same_address : goal.returns-then-is_same_address
-unfolding looked_up if◌then◌else◌
+unfolding looked_up when◌then◌else◌
 returns-then-is_same_address c = (rw (sym c.find_known-found.ensures.0 ∙ c.in-At.is, ← (held c.record_at-r.ensures.0), ← c.source_for-wanted.ensures, sym c.is_same_address.ensures ∙ c.if-is_same_address.true), subst OnePlace c.in-At.is c.find_known-found.ensures.1)
 
 pub returns-else-is_same_address : goal.returns-else-is_same_address
-unfolding looked_up if◌then◌else◌
+unfolding looked_up when◌then◌else◌
 returns-else-is_same_address c = (rw (sym c.find_known-found.ensures.0 ∙ c.in-At.is, ← (held c.record_at-r.ensures.0), ← c.source_for-wanted.ensures, sym c.is_same_address.ensures ∙ c.if-is_same_address.false), tt)

@@ -3,7 +3,7 @@ use mathlib.Core.Path.{sym, ◌∙◌, subst, ap}
 use Prim.Native.Nat.{◌<◌}
 use native.Mathlib.Omega.{arith}
 use lib.ListN.{length, length-take}
-use Rattle.octets.specs.Choice.{if◌then◌else◌}
+use Rattle.octets.specs.Choice.{when◌then◌else◌}
 use Rattle.octets.proofs.LentLaws.{held}
 use Rattle.store.specs.Places.{OnePlace}
 use Rattle.account.specs.Replace.{replaced_in}
@@ -17,12 +17,12 @@ pub is_replaceable-requires : goal.is_replaceable-requires
 is_replaceable-requires c = let b : c.in-At.k < 16 = subst OnePlace c.in-At.is c.find_known-found.ensures.1 in omega arith
 
 pub returns-then-not-is_replaceable : goal.returns-then-not-is_replaceable
-unfolding replaced_in if◌then◌else◌
+unfolding replaced_in when◌then◌else◌
 returns-then-not-is_replaceable c = rw (sym c.find_known-found.ensures.0 ∙ c.in-At.is, sym c.is_replaceable.ensures ∙ c.if-not-is_replaceable.true)
 
 pub correct-requires : goal.correct-requires
 correct-requires c = let b : c.in-At.k < 16 = subst OnePlace c.in-At.is c.find_known-found.ensures.1 in omega (arith, simp length-take at (ap length (held c.octets_of.ensures)))
 
 pub returns : goal.returns
-unfolding replaced_in if◌then◌else◌
+unfolding replaced_in when◌then◌else◌
 returns c = rw (sym c.find_known-found.ensures.0 ∙ c.in-At.is, sym c.is_replaceable.ensures ∙ c.if-not-is_replaceable.false, ← (held c.octets_of.ensures), c.correct.ensures)

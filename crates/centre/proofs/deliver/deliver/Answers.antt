@@ -1,40 +1,40 @@
 -- `centre::deliver::deliver` meets its contract. Assumes nothing.
 use mathlib.Core.Path.{refl}
 use borrow.Author.Tests.{eq-eqb, ne_eqb, le-leb, lt-leb}
-use Rattle.octets.specs.Choice.{if◌then◌else◌}
+use Rattle.octets.specs.Choice.{when◌then◌else◌}
 use Rattle.isolation.specs.Platform.{step}
 use Rattle.centre.proofs.deliver.deliver.Goals as goal
 
 pub returns-then-session-ge-SESSIONS : goal.returns-then-session-ge-SESSIONS
-unfolding step if◌then◌else◌
+unfolding step when◌then◌else◌
 returns-then-session-ge-SESSIONS c = rw (le-leb _ _ c.if-session-ge-SESSIONS.true, c.refuse.ensures)
 
 pub returns-then-early-ne0 : goal.returns-then-early-ne0
-unfolding step if◌then◌else◌
+unfolding step when◌then◌else◌
 returns-then-early-ne0 c = rw (lt-leb _ _ c.if-session-ge-SESSIONS.false, ← c.check-early.ensures.0, ne_eqb _ _ c.if-early-ne0.true, c.refuse-then-early-ne0.ensures)
 
 pub deliver_bound-requires : goal.deliver_bound-requires
-deliver_bound-requires c = let f = c.check-early.ensures.1 c.if-early-ne0.false in record { book_len = ((f.book_fits, f.table_fits), (c.if-session-ge-SESSIONS.false, refl)); longest_delivery_in_bounds = f.space_fits }
+deliver_bound-requires c = let f = c.check-early.ensures.1 c.if-early-ne0.false in record { book_len = ((f.book_fits, f.table_fits_lem), (c.if-session-ge-SESSIONS.false, refl)); longest_delivery_in_bounds = f.space_fits }
 
 pub deliver_bound-requires-in-Receiver : goal.deliver_bound-requires-in-Receiver
-deliver_bound-requires-in-Receiver c = let f = c.check-early.ensures.1 c.if-early-ne0.false in record { book_len = ((f.book_fits, f.table_fits), (c.if-session-ge-SESSIONS.false, eq-eqb c.in-Receiver.a c.in-Receiver.a refl)); longest_delivery_in_bounds = f.space_fits }
+deliver_bound-requires-in-Receiver c = let f = c.check-early.ensures.1 c.if-early-ne0.false in record { book_len = ((f.book_fits, f.table_fits_lem), (c.if-session-ge-SESSIONS.false, eq-eqb c.in-Receiver.a c.in-Receiver.a refl)); longest_delivery_in_bounds = f.space_fits }
 
 pub returns-in-Closed : goal.returns-in-Closed
-unfolding step if◌then◌else◌
+unfolding step when◌then◌else◌
 returns-in-Closed c = rw (lt-leb _ _ c.if-session-ge-SESSIONS.false, ← c.check-early.ensures.0, eq-eqb _ _ c.if-early-ne0.false, c.in-Closed.is, c.refuse-in-Closed.ensures)
 
 pub returns-in-Open : goal.returns-in-Open
-unfolding step if◌then◌else◌
+unfolding step when◌then◌else◌
 returns-in-Open c = rw (lt-leb _ _ c.if-session-ge-SESSIONS.false, ← c.check-early.ensures.0, eq-eqb _ _ c.if-early-ne0.false, c.in-Open.is, c.refuse-in-Open.ensures)
 
 pub returns-in-Transmitter : goal.returns-in-Transmitter
-unfolding step if◌then◌else◌
+unfolding step when◌then◌else◌
 returns-in-Transmitter c = rw (lt-leb _ _ c.if-session-ge-SESSIONS.false, ← c.check-early.ensures.0, eq-eqb _ _ c.if-early-ne0.false, c.in-Transmitter.is) c.deliver_bound.ensures
 
 pub returns-in-Receiver : goal.returns-in-Receiver
-unfolding step if◌then◌else◌
+unfolding step when◌then◌else◌
 returns-in-Receiver c = rw (lt-leb _ _ c.if-session-ge-SESSIONS.false, ← c.check-early.ensures.0, eq-eqb _ _ c.if-early-ne0.false, c.in-Receiver.is) c.deliver_bound-in-Receiver.ensures
 
 pub returns-in-Ended : goal.returns-in-Ended
-unfolding step if◌then◌else◌
+unfolding step when◌then◌else◌
 returns-in-Ended c = rw (lt-leb _ _ c.if-session-ge-SESSIONS.false, ← c.check-early.ensures.0, eq-eqb _ _ c.if-early-ne0.false, c.in-Ended.is, c.refuse-in-Ended.ensures)

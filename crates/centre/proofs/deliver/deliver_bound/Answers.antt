@@ -5,7 +5,7 @@ use Prim.Native.Nat.{ℕ, ◌*◌}
 use lib.ListN.{set}
 use native.Mathlib.Nat.{add-sub_cancel_left}
 use borrow.Author.Tests.{lt-ltb, le-ltb}
-use Rattle.octets.specs.Choice.{if◌then◌else◌}
+use Rattle.octets.specs.Choice.{when◌then◌else◌}
 use Rattle.octets.proofs.PatchLaws.{patch-none}
 use Rattle.octets.proofs.LentLaws.{held}
 use Rattle.session.specs.State.{last_at, receipts_of, issued, granted}
@@ -17,11 +17,11 @@ use Rattle.centre.specs.Centre.{act, on_delivery, world}
 use Rattle.centre.proofs.deliver.deliver_bound.Goals as goal
 
 pub returns-then-account-ge-ACCOUNTS : goal.returns-then-account-ge-ACCOUNTS
-unfolding if◌then◌else◌
+unfolding when◌then◌else◌
 returns-then-account-ge-ACCOUNTS c = rw (le-ltb _ _ c.if-account-ge-ACCOUNTS.true, c.refuse.ensures)
 
 pub returns : goal.returns
-unfolding act on_delivery if◌then◌else◌
+unfolding act on_delivery when◌then◌else◌
 returns c = let g = c.args in
     let at = 4096 * g.a in
     let t = g.table.now in

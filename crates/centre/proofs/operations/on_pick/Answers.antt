@@ -1,18 +1,18 @@
 -- `centre::operations::on_pick` meets its contract. Assumes nothing.
 use mathlib.Core.Path.{sym, ◌∙◌, subst}
-use Rattle.octets.specs.Choice.{if◌then◌else◌}
+use Rattle.octets.specs.Choice.{when◌then◌else◌}
 use Rattle.store.specs.Places as Places
 use Rattle.centre.specs.Operations.{picked_from}
 use Rattle.centre.proofs.operations.on_pick.Goals as goal
 
 pub returns-then-not-is_account_ok : goal.returns-then-not-is_account_ok
-unfolding picked_from if◌then◌else◌
+unfolding picked_from when◌then◌else◌
 returns-then-not-is_account_ok c = (rw (sym c.is_account_ok.ensures ∙ c.if-not-is_account_ok.true), tt)
 
 pub returns-in-At : goal.returns-in-At
-unfolding picked_from if◌then◌else◌
+unfolding picked_from when◌then◌else◌
 returns-in-At c = (rw (sym c.is_account_ok.ensures ∙ c.if-not-is_account_ok.false, sym c.find_next-found.ensures.0 ∙ c.in-At.is), subst Places.OnePlace c.in-At.is c.find_next-found.ensures.1)
 
 pub returns-in-Nowhere : goal.returns-in-Nowhere
-unfolding picked_from if◌then◌else◌
+unfolding picked_from when◌then◌else◌
 returns-in-Nowhere c = (rw (sym c.is_account_ok.ensures ∙ c.if-not-is_account_ok.false, sym c.find_next-found.ensures.0 ∙ c.in-Nowhere.is), tt)

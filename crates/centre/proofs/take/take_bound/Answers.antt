@@ -7,7 +7,7 @@ use mathlib.Core.List.{List}
 use Prim.Native.Nat.{ℕ, ◌*◌}
 use native.Mathlib.Omega.{arith}
 use borrow.Author.Tests.{lt-ltb, le-ltb}
-use Rattle.octets.specs.Choice.{if◌then◌else◌}
+use Rattle.octets.specs.Choice.{when◌then◌else◌}
 use Rattle.octets.proofs.StretchLaws.{part_length}
 use Rattle.octets.proofs.PatchLaws.{part-back}
 use Rattle.octets.proofs.LentLaws.{held}
@@ -19,14 +19,14 @@ use Rattle.centre.proofs.StateLaws.{concluded-put}
 use Rattle.centre.proofs.take.take_bound.Goals as goal
 
 pub returns-then-account-ge-ACCOUNTS : goal.returns-then-account-ge-ACCOUNTS
-unfolding if◌then◌else◌
+unfolding when◌then◌else◌
 returns-then-account-ge-ACCOUNTS c = rw (le-ltb _ _ c.if-account-ge-ACCOUNTS.true, c.refuse.ensures)
 
 pub conclude-next-requires : goal.conclude-next-requires
 conclude-next-requires c = (c.requires.book_len.1.0, c.if-account-ge-ACCOUNTS.false)
 
 pub returns : goal.returns
-unfolding act on_octets if◌then◌else◌
+unfolding act on_octets when◌then◌else◌
 returns c = let g = c.args in
     let at = 4096 * g.a in
     let t = g.table.now in

@@ -4,7 +4,7 @@ use mathlib.Core.Path.{◌≡◌}
 use mathlib.Core.Bool.{true, ◌&&◌}
 use Prim.Native.Nat.{ℕ, ◌≤◌}
 use native.Mathlib.Omega.{arith}
-use Rattle.octets.specs.Choice.{if◌then◌else◌}
+use Rattle.octets.specs.Choice.{when◌then◌else◌}
 use Rattle.octets.proofs.StretchLaws.{and_left, and_right}
 use Rattle.forms.specs.Class.{decimal}
 use Rattle.forms.specs.Time.{two_digits}
@@ -38,9 +38,9 @@ pub overflow_add-n : goal.overflow_add-n
 overflow_add-n c = let d = digits c.args.a c.args.b (rw (c.is_decimal-2.ensures, c.is_decimal.ensures) at c.if-is_decimal.true) in omega arith
 
 pub returns-then-is_decimal : goal.returns-then-is_decimal
-unfolding two_digits if◌then◌else◌
+unfolding two_digits when◌then◌else◌
 returns-then-is_decimal c = rw (rw (c.is_decimal-2.ensures, c.is_decimal.ensures) at c.if-is_decimal.true)
 
 pub returns-else-is_decimal : goal.returns-else-is_decimal
-unfolding two_digits if◌then◌else◌
+unfolding two_digits when◌then◌else◌
 returns-else-is_decimal c = rw (rw (c.is_decimal-2.ensures, c.is_decimal.ensures) at c.if-is_decimal.false)

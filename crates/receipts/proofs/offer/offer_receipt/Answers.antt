@@ -2,7 +2,7 @@
 use mathlib.Core.Path.{sym, ◌∙◌, subst}
 use Prim.Native.Nat.{◌<◌}
 use native.Mathlib.Omega.{arith}
-use Rattle.octets.specs.Choice.{if◌then◌else◌}
+use Rattle.octets.specs.Choice.{when◌then◌else◌}
 use Rattle.octets.proofs.LentLaws.{held}
 use Rattle.store.specs.Places.{OnePlace}
 use Rattle.store.proofs.AccountLaws.{account-state}
@@ -10,15 +10,15 @@ use Rattle.receipts.specs.Offer.{sent, offered}
 use Rattle.receipts.proofs.offer.offer_receipt.Goals as goal
 
 pub returns-then-not-is_account_ok : goal.returns-then-not-is_account_ok
-unfolding offered if◌then◌else◌
+unfolding offered when◌then◌else◌
 returns-then-not-is_account_ok c = rw (c.refuse.ensures, ← c.is_account_ok.ensures, c.if-not-is_account_ok.true)
 
 pub returns-then-receiver-is_outstanding : goal.returns-then-receiver-is_outstanding
-unfolding offered if◌then◌else◌
+unfolding offered when◌then◌else◌
 returns-then-receiver-is_outstanding c = rw (c.refuse-then-receiver-is_outstanding.ensures, ← c.is_account_ok.ensures, c.if-not-is_account_ok.false, ← c.is_outstanding.ensures, c.if-receiver-is_outstanding.true)
 
 pub returns-in_default : goal.returns-in_default
-unfolding offered if◌then◌else◌
+unfolding offered when◌then◌else◌
 returns-in_default c = rw (c.refuse-in_default.ensures, ← c.is_account_ok.ensures, c.if-not-is_account_ok.false, ← c.is_outstanding.ensures, c.if-receiver-is_outstanding.false, sym c.find_owed-found.ensures.0 ∙ c.in_default.is)
 
 pub record_at-r-requires : goal.record_at-r-requires
@@ -30,6 +30,6 @@ write-written-requires c = let b : c.in-At.k < 16 = subst OnePlace c.in-At.is c.
     ((c.record_at-r.ensures.1, rw (held c.record_at-r.ensures.0) s), omega arith)
 
 pub returns : goal.returns
-unfolding offered sent if◌then◌else◌
+unfolding offered sent when◌then◌else◌
 returns c = let e = held c.record_at-r.ensures.0 in
     rw (← c.is_account_ok.ensures, c.if-not-is_account_ok.false, ← c.is_outstanding.ensures, c.if-receiver-is_outstanding.false, sym c.find_owed-found.ensures.0 ∙ c.in-At.is, ← (rw e at c.write-written.ensures), ← (rw e at c.number_at-id.ensures))

@@ -1,6 +1,6 @@
 -- `receipts::settle::settle` meets its contract. Assumes nothing.
 use borrow.Author.Tests.{eq-eqb, ne_eqb}
-use Rattle.octets.specs.Choice.{if◌then◌else◌}
+use Rattle.octets.specs.Choice.{when◌then◌else◌}
 use Rattle.receipts.specs.Settle.{settled}
 use Rattle.receipts.proofs.settle.settle.Goals as goal
 
@@ -9,13 +9,13 @@ unfolding settled
 returns-in_default c = rw c.in_default.is
 
 pub returns-then-header-eq0 : goal.returns-then-header-eq0
-unfolding settled if◌then◌else◌
+unfolding settled when◌then◌else◌
 returns-then-header-eq0 c = rw (c.in-Outstanding.is, c.if-header-sequence.true, eq-eqb _ _ c.if-header-eq0.true, c.acknowledge.ensures)
 
 pub returns-else-header-eq0 : goal.returns-else-header-eq0
-unfolding settled if◌then◌else◌
+unfolding settled when◌then◌else◌
 returns-else-header-eq0 c = rw (c.in-Outstanding.is, c.if-header-sequence.true, ne_eqb _ _ c.if-header-eq0.false)
 
 pub returns-else-header-sequence : goal.returns-else-header-sequence
-unfolding settled if◌then◌else◌
+unfolding settled when◌then◌else◌
 returns-else-header-sequence c = rw (c.in-Outstanding.is, c.if-header-sequence.false)
