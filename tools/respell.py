@@ -64,11 +64,17 @@ def chosen(path, text):
     return "\n".join(lines)
 
 
-def turn(path, crate):
+def is_older(path):
+    """Whether the file has a name of the older spelling."""
+    with open(path, encoding="utf-8") as f:
+        return any(CAMEL.search(w) and not NUMBER.match(w) for w in WORD.findall(f.read()))
+
+
+def turn(path, crate, older):
     with open(path, encoding="utf-8") as f:
         old = f.read()
     new = old
-    if path.endswith(".antt"):
+    if older and path.endswith(".antt"):
         for where, lemma, to in LEMMAS:
             if where == crate:
                 new = re.sub(r"(?<![\w'-])" + lemma + r"(?![\w'-])", to, new)
@@ -80,14 +86,14 @@ def turn(path, crate):
 
 
 def main():
-    turned = 0
+    files = []
     for crate in sorted(os.listdir("crates")):
-        for folder, dirs, files in os.walk(os.path.join("crates", crate)):
+        for folder, dirs, names in os.walk(os.path.join("crates", crate)):
             dirs[:] = sorted(d for d in dirs if d != "out")
-            for name in sorted(files):
-                if name.endswith((".rt", ".antt", ".edit")):
-                    turned += turn(os.path.join(folder, name), crate)
-    print(f"respell: {turned} files")
+            files += [(os.path.join(folder, name), crate) for name in sorted(names) if name.endswith((".rt", ".antt", ".edit"))]
+    # A second run finds the definitions under the names that the lemmas had before the first.
+    older = any(is_older(path) for path, _ in files if path.endswith(".antt"))
+    print(f"respell: {sum(turn(path, crate, older) for path, crate in files)} files")
 
 
 main()

@@ -21,4 +21,4 @@ place-part a k table below = lent-part-part table (part_size * a) part_size (rec
 
 pub inside : (r : Placed) (a : ℕ) (table : List ℕ) → OnePlace r → a < account_count → length table ≡ table_size → Inside r a table
 inside (Refused n) a table one below sized = tt
-inside (Place k) a table one below sized = record { account_fits = below; place_fits = one; table_fits_lem = sized }
+inside (Place k) a table one below sized = record { account_fits = below; place_fits = one; table_fits = sized }

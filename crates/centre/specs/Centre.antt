@@ -134,11 +134,11 @@ reports number state table = record { answer = numbered number; world = world st
 
 pub record Fit (book table : ℕ) (stamp : List ℕ) (space : ℕ) : Type 0 where
   pub book_fits : book ≡ book_size
-  pub table_fits_lem : table ≡ table_size
+  pub table_fits : table ≡ table_size
   pub stamp_fits : length stamp ≡ time_length
   pub space_fits : space_needed ≤ space
 
 pub record Fitting (book table space : ℕ) : Type 0 where
   pub book_fits : book ≡ book_size
-  pub table_fits_lem : table ≡ table_size
+  pub table_fits : table ≡ table_size
   pub space_fits : longest_delivery ≤ space

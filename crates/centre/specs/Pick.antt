@@ -35,7 +35,7 @@ OnePlace (Place k) = k < places
 pub record WithinTable (a k : ℕ) (table : List ℕ) : Type 0 where
   pub account_fits : a < account_count
   pub place_fits : k < places
-  pub table_fits_lem : length table ≡ table_size
+  pub table_fits : length table ≡ table_size
 
 abbrev pub Inside : Placed → ℕ → List ℕ → Type 0
 Inside (Refused n) a table = Unit
@@ -44,9 +44,9 @@ Inside (Place k) a table = WithinTable a k table
 -- what no early number tells of the arguments
 pub record Sized (book table : ℕ) : Type 0 where
   pub book_fits : book ≡ book_size
-  pub table_fits_lem : table ≡ table_size
+  pub table_fits : table ≡ table_size
 
 pub record Stamped (book table : ℕ) (stamp : List ℕ) : Type 0 where
   pub book_fits : book ≡ book_size
-  pub table_fits_lem : table ≡ table_size
+  pub table_fits : table ≡ table_size
   pub stamp_fits : length stamp ≡ time_length

@@ -12,7 +12,7 @@ use Rattle.octets.specs.Stretch.{part, patch, padded, is_zero, zeros}
 use Rattle.octets.specs.Number.{number}
 use Rattle.octets.proofs.StretchLaws.{if-cases, part-part}
 use Rattle.octets.proofs.PatchLaws.{patch-length, part-patch, part-before, part-after, octet-before, octet-inside, padded-length}
-use Rattle.forms.specs.Field.{is_field_lem}
+use Rattle.forms.specs.Field.{is_field}
 use Rattle.forms.specs.Time.{sent_time, stored_time}
 use Rattle.forms.specs.declared.text.Form.TheVariants.{Ascii}
 use Rattle.forms.proofs.TimeLaws.{sent-length}
@@ -85,7 +85,7 @@ module _ (r r' : List ℕ) (kept : part 1 232 r' ≡ part 1 232 r) where
         id_high = omega (arith, outer-id, g.id_high);
         source = ap address_ok (field 4 22 (omega arith)) ∙ g.source;
         destination = ap address_ok (field 26 22 (omega arith)) ∙ g.destination;
-        service = ap (is_field_lem Ascii) (field 48 5 (omega arith)) ∙ g.service;
+        service = ap (is_field Ascii) (field 48 5 (omega arith)) ∙ g.service;
         priority = omega (arith, same-octet 1 232 r r' kept 55 (omega arith), g.priority);
         schedule = ap time_ok (field 56 16 (omega arith)) ∙ g.schedule;
         validity = ap time_ok (field 72 16 (omega arith)) ∙ g.validity;
@@ -211,7 +211,7 @@ module _ (r r' : List ℕ) (front : part 0 57 r' ≡ part 0 57 r) (behind : part
         id_high = omega (arith, inner-id, g.id_high);
         source = ap address_ok (field 5 22 (omega arith)) ∙ g.source;
         destination = ap address_ok (field 27 22 (omega arith)) ∙ g.destination;
-        service = ap (is_field_lem Ascii) (field 49 5 (omega arith)) ∙ g.service;
+        service = ap (is_field Ascii) (field 49 5 (omega arith)) ∙ g.service;
         priority = omega (arith, same-octet 0 57 r r' front 56 (omega arith), g.priority);
         schedule = schedule;
         validity = validity;

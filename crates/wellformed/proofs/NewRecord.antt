@@ -12,7 +12,7 @@ use Rattle.octets.specs.Number.{number, octets4}
 use Rattle.octets.proofs.NumberLaws.{octets4-length, number-octets4}
 use Rattle.octets.proofs.PatchLaws.{padded-length}
 use Rattle.forms.specs.Time.{sent_time, stored_time}
-use Rattle.forms.specs.Field.{is_field_lem}
+use Rattle.forms.specs.Field.{is_field}
 use Rattle.forms.specs.declared.text.Form.TheVariants.{Ascii}
 use Rattle.records.specs.Layout.{state_of, id_of, default_of, length_of, text_field_of}
 use Rattle.records.specs.Record.{address_ok, time_ok}
@@ -137,7 +137,7 @@ module _ (id : ℕ) (f : Fields) (service text : List ℕ) where
           id_high = omega arith;
           source = ap address_ok (here r f.source _ 5 22 at5 g.source_size) ∙ g.source;
           destination = ap address_ok (here r f.destination _ 27 22 at27 g.destination_size) ∙ g.destination;
-          service = ap (is_field_lem Ascii) (here r (padded 5 service) _ 49 5 at49 (padded-length 5 service g.service_size)) ∙ g.service_text;
+          service = ap (is_field Ascii) (here r (padded 5 service) _ 49 5 at49 (padded-length 5 service g.service_size)) ∙ g.service_text;
           priority = omega (arith, octet r _ 54 2 at54, g.priority);
           schedule = ap time_ok (here r f.schedule _ 57 16 at57 g.schedule.size) ∙ time-ok f.schedule g.schedule;
           validity = ap time_ok (here r f.validity _ 73 16 at73 g.validity.size) ∙ time-ok f.validity g.validity;

@@ -13,7 +13,7 @@ use Rattle.octets.specs.Stretch.{part, every, is_zero, zeros}
 use Rattle.octets.proofs.StretchLaws.{and_left, and_right, and_both, if-cases, if-false, part_length, part-part}
 use Rattle.forms.specs.Class.{in_class, lead}
 use Rattle.forms.specs.Text.{empty, given, given_all, after_spaces, formed}
-use Rattle.forms.specs.Field.{text_of, is_field_lem}
+use Rattle.forms.specs.Field.{text_of, is_field}
 use Rattle.forms.specs.declared.class.Class.TheVariants.{NotNul, Decimal}
 use Rattle.forms.specs.declared.text.Form.{Form}
 use Rattle.forms.specs.declared.text.Form.TheVariants.{Ascii, Digits, Address, AddressOrNone}
@@ -29,12 +29,12 @@ module _ (form : Form) (field : List ℕ) where
   IsField : Type 0
   IsField = (formed form (text_of field) ≡ true) × (zeros (drop (lead (in_class NotNul) field) field) ≡ true)
 
-  field_is : is_field_lem form field ≡ true → IsField
-  unfolding is_field_lem IsField
+  field_is : is_field form field ≡ true → IsField
+  unfolding is_field IsField
   field_is h = both _ _ h
 
-  is_field_lem : IsField → is_field_lem form field ≡ true
-  unfolding is_field_lem IsField
+  is_field_lem : IsField → is_field form field ≡ true
+  unfolding is_field IsField
   is_field_lem h = and_both (formed form (text_of field)) _ h.0 h.1
 
 -- ---- an address that is given
@@ -44,7 +44,7 @@ unfolding text_of lead when◌then◌else◌
 some-text [] h = h
 some-text (x ∷ xs) h = rw h (eqb-suc-zero (length (take (lead (in_class NotNul) xs) xs)))
 
-pub given-address : (address : List ℕ) → is_field_lem AddressOrNone (part 2 20 address) ≡ true → no_address address ≡ false → address_ok address ≡ true
+pub given-address : (address : List ℕ) → is_field AddressOrNone (part 2 20 address) ≡ true → no_address address ≡ false → address_ok address ≡ true
 unfolding formed IsField
 given-address address h given =
     let field = part 2 20 address in
@@ -61,7 +61,7 @@ every_append p (x ∷ xs) ys h =
     let b = both (p x) _ h in
     and_both (p x) (every p xs) b.0 (every_append p xs ys b.1)
 
-trimmed : (form : Form) (field : List ℕ) → is_field_lem form (field ++ (0 ∷ [])) ≡ true → is_field_lem form field ≡ true
+trimmed : (form : Form) (field : List ℕ) → is_field form (field ++ (0 ∷ [])) ≡ true → is_field form field ≡ true
 unfolding IsField text_of lead when◌then◌else◌
 trimmed form field h =
     let p = in_class NotNul in
@@ -78,7 +78,7 @@ no-spaces [] h = refl
 no-spaces (x ∷ xs) h =
     ap (λ (n : ℕ). drop n (x ∷ xs)) (if-false (eqb x 32) _ 0 (ne_eqb x 32 (λ e. absurd (omega (arith, within_low 48 57 x (and_left _ _ h))))))
 
-digits-address : (field : List ℕ) → is_field_lem Digits field ≡ true → is_field_lem Address field ≡ true
+digits-address : (field : List ℕ) → is_field Digits field ≡ true → is_field Address field ≡ true
 unfolding formed IsField
 digits-address field h =
     let f = field_is Digits field h in
@@ -101,12 +101,12 @@ module _ (book : List ℕ) (sized : length book ≡ book_record_size) where
   callback-ok h =
       let field = part 40 21 book in
       let whole : length field ≡ 21 = part_length 40 21 book (omega arith) in
-      let digits = both (is_field_lem Digits field) _ (book-digits book (and_right (not (zeros book)) (book_ok book) h)) in
+      let digits = both (is_field Digits field) _ (book-digits book (and_right (not (zeros book)) (book_ok book) h)) in
       let last : get_or field 20 0 ≡ 0 = ap (λ (n : ℕ). get_or field (n - 1) 0) (sym whole) ∙ eqb-true _ 0 digits.1 in
       let split : field ≡ take 20 field ++ (0 ∷ []) =
       sym (take_all 21 field (omega arith)) ∙ take-suc field 20 0 (omega arith) ∙ ap (λ (x : ℕ). take 20 field ++ (x ∷ [])) last in
-      ap (is_field_lem Address) (part-part book 38 22 2 20 (omega arith) ∙ sym (take-take 20 21 (drop 40 book) (omega arith)))
-      ∙ digits-address (take 20 field) (trimmed Digits (take 20 field) (ap (is_field_lem Digits) (sym split) ∙ digits.0))
+      ap (is_field Address) (part-part book 38 22 2 20 (omega arith) ∙ sym (take-take 20 21 (drop 40 book) (omega arith)))
+      ∙ digits-address (take 20 field) (trimmed Digits (take 20 field) (ap (is_field Digits) (sym split) ∙ digits.0))
 
 -- ---- the source
 

@@ -10,7 +10,7 @@ use Rattle.octets.proofs.StretchLaws.{and_both, if-cases}
 use Rattle.forms.specs.Class.{in_class, lead}
 use Rattle.forms.specs.Text.{formed}
 use Rattle.forms.specs.Time.{sent_time, stored_time}
-use Rattle.forms.specs.Field.{is_field_lem}
+use Rattle.forms.specs.Field.{is_field}
 use Rattle.forms.specs.declared.class.Class.TheVariants.{NotNul}
 use Rattle.forms.specs.declared.text.Form.{Form}
 use Rattle.forms.proofs.TextLaws.{padded-lead, padded-text}
@@ -28,8 +28,8 @@ every-lead p (x ∷ xs) =
     if-cases (λ (n : ℕ). every p (take n (x ∷ xs)) ≡ true) (p x) (suc (lead p xs)) 0 (λ h. and_both (p x) _ h (every-lead p xs)) (λ _. refl)
 
 -- a text without a NUL, zeros behind it, is a field with that text
-pub padded-field : (form : Form) (n : ℕ) (text : List ℕ) → every (in_class NotNul) text ≡ true → formed form text ≡ true → is_field_lem form (padded n text) ≡ true
-unfolding is_field_lem
+pub padded-field : (form : Form) (n : ℕ) (text : List ℕ) → every (in_class NotNul) text ≡ true → formed form text ≡ true → is_field form (padded n text) ≡ true
+unfolding is_field
 padded-field form n text no_nul h =
     rw (padded-text n text no_nul, padded-lead n text no_nul, drop-append_seam text (replicate (n - length text) 0))
     (and_both (formed form text) _ h (every-replicate is_zero (n - length text) 0 refl))

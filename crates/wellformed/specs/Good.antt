@@ -2,7 +2,7 @@
 use Rattle.std.specs.Prelude.{ℕ, ◌≤◌, ◌<◌, ◌≡◌, true, false, ◌⊎◌, List, length, drop}
 use Rattle.octets.specs.Stretch.{padded, zeros}
 use Rattle.forms.specs.Text.{longest_text}
-use Rattle.forms.specs.Field.{address_size, is_field_lem}
+use Rattle.forms.specs.Field.{address_size, is_field}
 use Rattle.forms.specs.Time.{stored_time}
 use Rattle.forms.specs.declared.text.Form.TheVariants.{Ascii}
 use Rattle.records.specs.Layout.{places, state_of, id_of, source_of, destination_of, service_of, priority_of, schedule_of, validity_of, registered_of, default_of, length_of, text_field_of, date_of, error_of, mark_of, spare_of}
@@ -39,7 +39,7 @@ pub record Good (last : ℕ) (r : List ℕ) : Type 0 where
   pub id_high : id_of r ≤ last
   pub source : address_ok (source_of r) ≡ true
   pub destination : address_ok (destination_of r) ≡ true
-  pub service : is_field_lem Ascii (service_of r) ≡ true
+  pub service : is_field Ascii (service_of r) ≡ true
   pub priority : priority_of r ≤ 1
   pub schedule : time_ok (schedule_of r) ≡ true
   pub validity : time_ok (validity_of r) ≡ true
@@ -65,7 +65,7 @@ pub record GoodFields (f : Fields) (service text : List ℕ) : Type 0 where
   pub destination_size : length f.destination ≡ address_size
   pub destination : address_ok f.destination ≡ true
   pub service_size : length service ≤ 5
-  pub service_text : is_field_lem Ascii (padded 5 service) ≡ true
+  pub service_text : is_field Ascii (padded 5 service) ≡ true
   pub priority : f.priority ≤ 1
   pub schedule : Timed f.schedule
   pub validity : Timed f.validity

@@ -4,7 +4,7 @@ use Rattle.octets.specs.Stretch.{part, every, zeros}
 use Rattle.forms.specs.Class.{in_class}
 use Rattle.forms.specs.Text.{longest_text, formed}
 use Rattle.forms.specs.Time.{time_length, sent_time}
-use Rattle.forms.specs.Field.{address_size, is_field_lem}
+use Rattle.forms.specs.Field.{address_size, is_field}
 use Rattle.forms.specs.declared.class.Class.TheVariants.{NotNul}
 use Rattle.forms.specs.declared.text.Form.{Form}
 use Rattle.forms.specs.declared.text.Form.TheVariants.{Ascii, AddressOrNone}
@@ -23,7 +23,7 @@ pub record Text (form : Form) (n : ℕ) (span : Span) (body : List ℕ) : Type 0
 -- ton, npi, and in 20 octets, zeros behind it, nothing or leading spaces and then at least one decimal digit
 pub record Addressed (octets : List ℕ) : Type 0 where
   pub size : length octets ≡ address_size
-  pub number : is_field_lem AddressOrNone (part 2 20 octets) ≡ true
+  pub number : is_field AddressOrNone (part 2 20 octets) ≡ true
 
 -- none, or a time
 pub record Timed (octets : List ℕ) : Type 0 where

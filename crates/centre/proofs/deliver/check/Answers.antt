@@ -20,5 +20,5 @@ unfolding delivery_early when◌then◌else◌
 returns c =
     let fits = sym c.is_wrong.ensures ∙ c.if-is_wrong.false in (
       rw (fits, le-ltb _ _ c.if-space-lt-LONGEST.false),
-      λ e. record { book_fits = book-fits c.args.book c.args.table fits; table_fits_lem = table_fits_lem c.args.book c.args.table fits; space_fits = c.if-space-lt-LONGEST.false },
+      λ e. record { book_fits = book-fits c.args.book c.args.table fits; table_fits = table_fits_lem c.args.book c.args.table fits; space_fits = c.if-space-lt-LONGEST.false },
     )

@@ -21,5 +21,5 @@ returns c =
     let fits = sym c.is_wrong.ensures ∙ c.if-is_wrong.false in
     let sent = sym c.is_sent_time.ensures ∙ c.if-not-is_sent_time.false in (
       rw (fits, sent),
-      λ e. record { book_fits = book-fits c.args.book c.args.table fits; table_fits_lem = table_fits_lem c.args.book c.args.table fits; stamp_fits = sent-length _ sent },
+      λ e. record { book_fits = book-fits c.args.book c.args.table fits; table_fits = table_fits_lem c.args.book c.args.table fits; stamp_fits = sent-length _ sent },
     )

@@ -14,4 +14,4 @@ pub returns-else-is_wrong : goal.returns-else-is_wrong
 unfolding pick_early when◌then◌else◌
 returns-else-is_wrong c =
     let fits = sym c.is_wrong.ensures ∙ c.if-is_wrong.false in
-    (rw (fits), λ e. record { book_fits = book-fits c.args.book c.args.table fits; table_fits_lem = table_fits_lem c.args.book c.args.table fits })
+    (rw (fits), λ e. record { book_fits = book-fits c.args.book c.args.table fits; table_fits = table_fits_lem c.args.book c.args.table fits })

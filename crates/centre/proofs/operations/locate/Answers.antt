@@ -22,12 +22,12 @@ pub record_of-record-requires : goal.record_of-record-requires
 record_of-record-requires c = let f = c.check_pick-early.ensures.1 c.if-early-ne0.false in (f.book_fits, c.if-account-ge-ACCOUNTS.false)
 
 pub slice_bounds-on_pick-end : goal.slice_bounds-on_pick-end
-slice_bounds-on_pick-end c = let f = c.check_pick-early.ensures.1 c.if-early-ne0.false in omega (arith, f.table_fits_lem, c.if-account-ge-ACCOUNTS.false)
+slice_bounds-on_pick-end c = let f = c.check_pick-early.ensures.1 c.if-early-ne0.false in omega (arith, f.table_fits, c.if-account-ge-ACCOUNTS.false)
 
 pub returns : goal.returns
 unfolding step act when◌then◌else◌
 returns c = let f = c.check_pick-early.ensures.1 c.if-early-ne0.false in
     let e = rw (add-sub_cancel_left (4096 * c.args.account) 4096) at c.on_pick.ensures.0 in (
       rw (← c.check_pick-early.ensures.0, eq-eqb _ _ c.if-early-ne0.false, lt-ltb _ _ c.if-account-ge-ACCOUNTS.false, ← (held c.record_of-record.ensures.0)) e,
-      inside c.on_pick.result c.args.account c.args.table.now c.on_pick.ensures.1 c.if-account-ge-ACCOUNTS.false f.table_fits_lem,
+      inside c.on_pick.result c.args.account c.args.table.now c.on_pick.ensures.1 c.if-account-ge-ACCOUNTS.false f.table_fits,
     )

@@ -27,5 +27,5 @@ returns c =
     let fits = sym c.is_wrong.ensures ∙ c.if-is_wrong.false in
     let sent = sym c.is_sent_time.ensures ∙ c.if-not-is_sent_time.false in (
       rw (fits, le-ltb _ _ c.if-space-lt-SPACE_NEEDED.false, sent),
-      λ e. record { book_fits = book-fits c.args.book c.args.table fits; table_fits_lem = table_fits_lem c.args.book c.args.table fits; stamp_fits = sent-length _ sent; space_fits = c.if-space-lt-SPACE_NEEDED.false },
+      λ e. record { book_fits = book-fits c.args.book c.args.table fits; table_fits = table_fits_lem c.args.book c.args.table fits; stamp_fits = sent-length _ sent; space_fits = c.if-space-lt-SPACE_NEEDED.false },
     )
