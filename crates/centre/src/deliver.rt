@@ -54,8 +54,8 @@ fn deliver_bound(
     sequence: u32,
     space: &mut [u8],
 ) -> Delivered
-    requires book_len { ((length book.now ≡ book_size) × (length table.now ≡ table_size)) × ((session < session_count) × (receiver_of a entry ≡ receiver)) }
-    requires longest_delivery_in_bounds { longest_delivery ≤ length space.old }
+    requires platform { ((length book.now ≡ book_size) × (length table.now ≡ table_size)) × ((session < session_count) × (receiver_of a entry ≡ receiver)) }
+    requires call { longest_delivery ≤ length space.old }
     ensures { delivers result table.now space.new ≡ on_account centre book.now (world state table.now) session (Call.delivering (record { sequence = sequence; space = space.old })) entry a }
 {
     let account = a as usize;

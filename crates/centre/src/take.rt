@@ -113,8 +113,8 @@ fn take_bound(
     stamp: &[u8],
     space: &mut [u8],
 ) -> Taken
-    requires book_len { ((length book.now ≡ book_size) × (length table.old ≡ table_size)) × ((session < session_count) × (is_transmitter entry ≡ transmitter)) }
-    requires stamp_len { (length stamp.now ≡ time_length) × (space_needed ≤ length space.old) }
+    requires platform { ((length book.now ≡ book_size) × (length table.old ≡ table_size)) × ((session < session_count) × (is_transmitter entry ≡ transmitter)) }
+    requires call { (length stamp.now ≡ time_length) × (space_needed ≤ length space.old) }
     ensures { takes result table.new space.new ≡ on_account centre book.now (world state table.old) session (Call.taking (record { octets = octets.entry.now; stamp = stamp.now; space = space.old })) entry a }
 {
     let account = a as usize;

@@ -14,10 +14,10 @@ unfolding step when◌then◌else◌
 returns-then-early-ne0 c = rw (lt-leb _ _ c.if-session-ge-SESSIONS.false, ← c.check-early.ensures.0, ne_eqb _ _ c.if-early-ne0.true, c.refuse-then-early-ne0.ensures)
 
 pub deliver_bound-requires : goal.deliver_bound-requires
-deliver_bound-requires c = let f = c.check-early.ensures.1 c.if-early-ne0.false in record { book_len = ((f.book_fits, f.table_fits), (c.if-session-ge-SESSIONS.false, refl)); longest_delivery_in_bounds = f.space_fits }
+deliver_bound-requires c = let f = c.check-early.ensures.1 c.if-early-ne0.false in record { platform = ((f.book_fits, f.table_fits), (c.if-session-ge-SESSIONS.false, refl)); call = f.space_fits }
 
 pub deliver_bound-requires-in-Receiver : goal.deliver_bound-requires-in-Receiver
-deliver_bound-requires-in-Receiver c = let f = c.check-early.ensures.1 c.if-early-ne0.false in record { book_len = ((f.book_fits, f.table_fits), (c.if-session-ge-SESSIONS.false, eq-eqb c.in-Receiver.a c.in-Receiver.a refl)); longest_delivery_in_bounds = f.space_fits }
+deliver_bound-requires-in-Receiver c = let f = c.check-early.ensures.1 c.if-early-ne0.false in record { platform = ((f.book_fits, f.table_fits), (c.if-session-ge-SESSIONS.false, eq-eqb c.in-Receiver.a c.in-Receiver.a refl)); call = f.space_fits }
 
 pub returns-in-Closed : goal.returns-in-Closed
 unfolding step when◌then◌else◌

@@ -27,6 +27,6 @@ returns c = let g = c.args in
     let t = g.table.now in
     let o = c.offer_receipt-offer in
     let e = rw (add-sub_cancel_left at 4096) at o.ensures in
-    rw (lt-ltb _ _ c.if-account-ge-ACCOUNTS.false, c.requires.book_len.1.1, ← (held c.record_of-record.ensures.0), receipts-at g.state g.a g.session, ← c.receipt_for-receipt.ensures, ← c.held-ids.ensures, ← e, c.grant-next.ensures)
+    rw (lt-ltb _ _ c.if-account-ge-ACCOUNTS.false, c.requires.platform.1.1, ← (held c.record_of-record.ensures.0), receipts-at g.state g.a g.session, ← c.receipt_for-receipt.ensures, ← c.held-ids.ensures, ← e, c.grant-next.ensures)
     (ap {B = Ran Answer} (λ (l : List ℕ). record { answer = A.delivered o.result.number o.result.written o.new.space; world = world (issued (granted g.state g.a (set (receipts_of g.state g.a) g.session o.result.receipt)) g.a (last_at g.state g.a)) l })
     (sym (patch-none t at 4096)))

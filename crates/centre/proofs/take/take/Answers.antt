@@ -17,10 +17,10 @@ pub take_open-requires : goal.take_open-requires
 take_open-requires c = let f = c.check-early.ensures.1 c.if-early-ne0.false in (f.book_fits, (c.if-session-ge-SESSIONS.false, f.space_fits))
 
 pub take_bound-requires : goal.take_bound-requires
-take_bound-requires c = let f = c.check-early.ensures.1 c.if-early-ne0.false in record { book_len = ((f.book_fits, f.table_fits), (c.if-session-ge-SESSIONS.false, refl)); stamp_len = (f.stamp_fits, f.space_fits) }
+take_bound-requires c = let f = c.check-early.ensures.1 c.if-early-ne0.false in record { platform = ((f.book_fits, f.table_fits), (c.if-session-ge-SESSIONS.false, refl)); call = (f.stamp_fits, f.space_fits) }
 
 pub take_bound-requires-in-Receiver : goal.take_bound-requires-in-Receiver
-take_bound-requires-in-Receiver c = let f = c.check-early.ensures.1 c.if-early-ne0.false in record { book_len = ((f.book_fits, f.table_fits), (c.if-session-ge-SESSIONS.false, refl)); stamp_len = (f.stamp_fits, f.space_fits) }
+take_bound-requires-in-Receiver c = let f = c.check-early.ensures.1 c.if-early-ne0.false in record { platform = ((f.book_fits, f.table_fits), (c.if-session-ge-SESSIONS.false, refl)); call = (f.stamp_fits, f.space_fits) }
 
 pub returns-in-Closed : goal.returns-in-Closed
 unfolding step when◌then◌else◌

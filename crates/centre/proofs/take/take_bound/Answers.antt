@@ -23,7 +23,7 @@ unfolding when◌then◌else◌
 returns-then-account-ge-ACCOUNTS c = rw (le-ltb _ _ c.if-account-ge-ACCOUNTS.true, c.refuse.ensures)
 
 pub conclude-next-requires : goal.conclude-next-requires
-conclude-next-requires c = (c.requires.book_len.1.0, c.if-account-ge-ACCOUNTS.false)
+conclude-next-requires c = (c.requires.platform.1.0, c.if-account-ge-ACCOUNTS.false)
 
 pub returns : goal.returns
 unfolding act on_octets when◌then◌else◌
@@ -34,6 +34,6 @@ returns c = let g = c.args in
     let back = b.new.part in
     let r : Taken = record { number = b.result.acted.number; consumed = b.result.acted.consumed; written = b.result.acted.written; state = c.conclude-next.result } in
     let e = rw (add-sub_cancel_left at 4096) at b.ensures in
-    let n : length back ≡ 4096 = (rw (add-sub_cancel_left at 4096) at b.auto.part) ∙ part_length at 4096 t (omega (arith, c.requires.book_len.0.1, c.if-account-ge-ACCOUNTS.false)) in
-    ap (λ (l : List ℕ). takes r l b.new.space) (part-back t at 4096 back n (omega (arith, c.requires.book_len.0.1, c.if-account-ge-ACCOUNTS.false)))
-    ∙ rw (lt-ltb _ _ c.if-account-ge-ACCOUNTS.false, c.requires.book_len.1.1, ← (held c.record_of-record.ensures.0), receipts-at g.state g.a g.session, ← c.receipt_for-receipt.ensures, ← e, concluded-put g.state t g.session g.a b.result.acted.ends (owning back b.result.acted.last (set (receipts_of g.state g.a) g.session b.result.receipt)), c.conclude-next.ensures)
+    let n : length back ≡ 4096 = (rw (add-sub_cancel_left at 4096) at b.auto.part) ∙ part_length at 4096 t (omega (arith, c.requires.platform.0.1, c.if-account-ge-ACCOUNTS.false)) in
+    ap (λ (l : List ℕ). takes r l b.new.space) (part-back t at 4096 back n (omega (arith, c.requires.platform.0.1, c.if-account-ge-ACCOUNTS.false)))
+    ∙ rw (lt-ltb _ _ c.if-account-ge-ACCOUNTS.false, c.requires.platform.1.1, ← (held c.record_of-record.ensures.0), receipts-at g.state g.a g.session, ← c.receipt_for-receipt.ensures, ← e, concluded-put g.state t g.session g.a b.result.acted.ends (owning back b.result.acted.last (set (receipts_of g.state g.a) g.session b.result.receipt)), c.conclude-next.ensures)

@@ -1,5 +1,4 @@
 -- `forms::time::is_two` meets its contract: two decimal digits are no less than "0". Assumes nothing.
--- what two decimal digits are
 use mathlib.Core.Path.{◌≡◌}
 use mathlib.Core.Bool.{true, ◌&&◌}
 use Prim.Native.Nat.{ℕ, ◌≤◌}
@@ -11,6 +10,7 @@ use Rattle.forms.specs.Time.{two_digits}
 use Rattle.forms.proofs.ClassLaws.{within_low, within-high}
 use Rattle.forms.proofs.time.is_two.Goals as goal
 
+-- what two decimal digits are
 record Digits (a b : ℕ) : Type 0 where
   low_a : 48 ≤ a
   high_a : a ≤ 57

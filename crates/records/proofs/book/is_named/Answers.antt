@@ -1,5 +1,4 @@
 -- `records::book::is_named` meets its contract. Assumes nothing.
--- a conjunction of three, of which the last two are known
 use mathlib.Core.Path.{◌≡◌, sym, ap, ◌∙◌}
 use mathlib.Core.Bool.{Bool, true, false, ◌&&◌}
 use Rattle.octets.proofs.StretchLaws.{and_assoc, and-true, and-false}
@@ -7,6 +6,7 @@ use Rattle.octets.proofs.LentLaws.{held}
 use Rattle.records.specs.Book.{used_ok, named}
 use Rattle.records.proofs.book.is_named.Goals as goal
 
+-- a conjunction of three, of which the last two are known
 last-of-three : (a b c : Bool) → (b && c) ≡ true → a ≡ ((a && b) && c)
 last-of-three a b c h = sym (and_assoc a b c ∙ (ap (λ (x : Bool). a && x) h ∙ and-true a))
 

@@ -5,7 +5,7 @@ use Rattle.records.specs.Record.{text_ok}
 use Rattle.records.proofs.record.is_text_ok.Goals as goal
 
 pub overflow_cast-size : goal.overflow_cast-size
-overflow_cast-size c = omega (arith, c.shared_slice_known-1.given 92)
+overflow_cast-size c = omega (arith, c.type_inv.r 92)
 
 pub returns : goal.returns
 unfolding text_ok

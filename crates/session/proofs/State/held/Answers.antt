@@ -1,5 +1,4 @@
 -- `session::State::held` meets its contract: after i turns the first i ids are there. Assumes nothing.
--- owning the state tells how many sessions it has
 use mathlib.Core.Path.{◌≡◌, refl, sym, ◌∙◌}
 use mathlib.Core.List.{List}
 use Prim.Native.Nat.{ℕ, ◌+◌, ◌<◌}
@@ -15,6 +14,7 @@ turn : (ids held : List ℕ) (i : ℕ) → i < length ids → i < length held �
     → take (i + 1) (set ids i (get_or held i 0)) ≡ take (i + 1) held
 turn ids held i h k e = rw (add-one i, take-suc-set ids i (get_or held i 0) h, take-suc held i 0 k, e)
 
+-- owning the state tells how many sessions it has
 pub loop-i-init : goal.loop-i-init
 loop-i-init c = (omega arith, (refl, (refl, simp length-map c.well_formed.0.1.1.0.1.0.1)))
 
