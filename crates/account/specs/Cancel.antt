@@ -1,8 +1,6 @@
 -- cancel_sm (document 01, "Effects").
-use Rattle.std.specs.Prelude.{ℕ, Bool, not, ◌&&◌, ◌||◌, List, eqb}
+use Rattle.std.specs.Prelude.{ℕ, Bool, not, ◌&&◌, ◌||◌, List, eqb, None, Option, Some}
 use Rattle.octets.specs.Choice.{when◌then◌else◌}
-use Rattle.forms.specs.declared.text.MessageId.{MessageId}
-use Rattle.forms.specs.declared.text.MessageId.TheVariants.{Empty, Number}
 use Rattle.wire.specs.Status.{invalid_destination, invalid_message_id, cannot_cancel}
 use Rattle.requests.specs.Cancel.{cancel_of}
 use Rattle.records.specs.Layout.{places, source_of, destination_of}
@@ -47,9 +45,9 @@ cancelled_all source destination stamp part =
     (λ k. changed 0 (on_places (deleted_if source destination stamp) places 0 part))
     (changed cannot_cancel part)
 
-abbrev pub cancelled_by : MessageId → List ℕ → List ℕ → List ℕ → List ℕ → Changed
-cancelled_by Empty source destination stamp part = cancelled_all source destination stamp part
-cancelled_by (Number id) source destination stamp part = cancelled_one id source destination stamp part
+abbrev pub cancelled_by : Option ℕ → List ℕ → List ℕ → List ℕ → List ℕ → Changed
+cancelled_by None source destination stamp part = cancelled_all source destination stamp part
+cancelled_by (Some id) source destination stamp part = cancelled_one id source destination stamp part
 
 unfoldable pub cancelled : List ℕ → List ℕ → List ℕ → List ℕ → Changed
 cancelled book stamp body part =

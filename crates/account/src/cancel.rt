@@ -7,7 +7,6 @@ ghost use Rattle.store.specs.Places.{record_at, on_place, on_places};
 ghost use Rattle.account.specs.Cancel.{changed, cancellable, cancelled_one, deleted_if, cancelled_all, cancelled_by, cancelled};
 
 use forms::field;
-use forms::text::MessageId;
 use records::layout;
 use store::places::Found;
 use wire::status;
@@ -108,7 +107,7 @@ fn cancel_all(
 
 fn cancel_by(
     part: &mut [u8],
-    id: MessageId,
+    id: Option<u32>,
     source: &[u8; field::ADDRESS_SIZE],
     destination: &[u8; field::ADDRESS_SIZE],
     stamp: &[u8],
@@ -117,8 +116,8 @@ fn cancel_by(
     ensures { changed result part.new ≡ cancelled_by id source.now destination.now stamp.now part.old }
 {
     match id {
-        MessageId::Empty => cancel_all(part, source, destination, stamp),
-        MessageId::Number(n) => cancel_one(part, n, source, destination, stamp),
+        None => cancel_all(part, source, destination, stamp),
+        Some(n) => cancel_one(part, n, source, destination, stamp),
     }
 }
 

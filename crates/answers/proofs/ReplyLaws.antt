@@ -1,4 +1,5 @@
 -- A reply's pieces, put into the space one after the other, are the reply. Assumes nothing.
+use Rattle.std.specs.Prelude.{None, Option, Some}
 use mathlib.Core.Path.{◌≡◌, refl, sym, ap, ◌∙◌}
 use mathlib.Core.List.{List, [], ◌++◌, append_assoc}
 use Prim.Native.Nat.{ℕ, ◌+◌, ◌≤◌}
@@ -8,8 +9,6 @@ use lib.ListN.{length, length-append}
 use Rattle.octets.specs.Stretch.{patch}
 use Rattle.octets.specs.Number.{octets4, hex8}
 use Rattle.octets.proofs.PatchLaws.{patch-next, patch-behind, patch-front, patch-nothing}
-use Rattle.forms.specs.declared.text.MessageId.{MessageId}
-use Rattle.forms.specs.declared.text.MessageId.TheVariants.{Empty, Number}
 use Rattle.answers.specs.Reply.{header, reply, id_text, query_body, wrote, over}
 
 pub header-length : (size id status sequence : ℕ) → length (header size id status sequence) ≡ 16
@@ -58,11 +57,11 @@ replied-bare id status sequence space h =
     ap (λ (l : List ℕ). wrote 16 (patch l 0 (header 16 id status sequence))) (sym (patch-nothing space 16))
     ∙ replied 16 id status sequence [] space refl h
 
-pub id_text-within : (id : MessageId) → length (id_text id) ≤ 9
+pub id_text-within : (id : Option ℕ) → length (id_text id) ≤ 9
 unfolding id_text hex8
-id_text-within Empty = omega arith
-id_text-within (Number n) = omega arith
+id_text-within None = omega arith
+id_text-within (Some n) = omega arith
 
-pub query_body-length : (id : MessageId) (date : List ℕ) (state error : ℕ) → length (query_body id date state error) ≡ length (id_text id) + length date + 3
+pub query_body-length : (id : Option ℕ) (date : List ℕ) (state error : ℕ) → length (query_body id date state error) ≡ length (id_text id) + length date + 3
 unfolding query_body
 query_body-length id date state error = simp length-append (omega arith)

@@ -1,8 +1,6 @@
 -- The replies (document 01, "From octets to a response"; 002, 6.2 and 6.3): a header, and a body where the reply has one.
-use Rattle.std.specs.Prelude.{ℕ, ◌+◌, List, [], ◌∷◌, ◌++◌, length, drop}
+use Rattle.std.specs.Prelude.{ℕ, ◌+◌, List, [], ◌∷◌, ◌++◌, length, drop, None, Option, Some}
 use Rattle.octets.specs.Number.{octets4, hex8}
-use Rattle.forms.specs.declared.text.MessageId.{MessageId}
-use Rattle.forms.specs.declared.text.MessageId.TheVariants.{Empty, Number}
 use Rattle.wire.specs.Command.{response_to}
 
 -- command_length, command_id, command_status, sequence_number
@@ -37,20 +35,20 @@ abbrev pub bind_body : List ℕ
 bind_body = 83 ∷ 77 ∷ 83 ∷ 67 ∷ 51 ∷ 51 ∷ 0 ∷ []
 
 -- the id as 8 upper-case hex digits and NUL, or one NUL
-unfoldable pub id_text : MessageId → List ℕ
-id_text Empty = 0 ∷ []
-id_text (Number n) = hex8 n ++ (0 ∷ [])
+unfoldable pub id_text : Option ℕ → List ℕ
+id_text None = 0 ∷ []
+id_text (Some n) = hex8 n ++ (0 ∷ [])
 
-abbrev pub submit_body : MessageId → List ℕ
+abbrev pub submit_body : Option ℕ → List ℕ
 submit_body id = id_text id
 
 -- the id likewise, final date and NUL or one NUL, wire state, error code
-unfoldable pub query_body : MessageId → List ℕ → ℕ → ℕ → List ℕ
+unfoldable pub query_body : Option ℕ → List ℕ → ℕ → ℕ → List ℕ
 query_body id date state error = id_text id ++ (date ++ (0 ∷ state ∷ error ∷ []))
 
 -- of a refused query four zero octets: no id, no date, and zeros
 abbrev pub no_query : List ℕ
-no_query = query_body Empty [] 0 0
+no_query = query_body None [] 0 0
 
 -- ---- what a reply leaves: how many octets it has, and the space with them at its front, the rest unchanged
 

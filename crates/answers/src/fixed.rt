@@ -1,11 +1,9 @@
 // Replies that an open and a bound session give alike.
-ghost use Rattle.std.specs.Prelude.{◌≡◌, ◌≤◌, length};
-ghost use Rattle.forms.specs.declared.text.MessageId.TheVariants.{Empty};
+ghost use Rattle.std.specs.Prelude.{◌≡◌, ◌≤◌, length, None};
 ghost use Rattle.wire.specs.Status.{invalid_command_length, invalid_command_id, invalid_bind_status};
 ghost use Rattle.answers.specs.Reply.{space_needed, generic_nak, no_body, submit_body, no_query, reply, over, wrote};
 
 use crate::reply;
-use forms::text::MessageId;
 use wire::status;
 
 // A request that the session's state doesn't allow, where the response has no body.
@@ -19,13 +17,13 @@ pub fn wrong_state(space: &mut [u8], id: u32, sequence: u32) -> usize
 // A submission that the session's state doesn't allow.
 pub fn no_submission(space: &mut [u8], sequence: u32) -> usize
     requires { space_needed ≤ length space.old }
-    ensures { wrote result space.new ≡ over (reply 0x80000004 invalid_bind_status sequence (submit_body Empty)) space.old }
+    ensures { wrote result space.new ≡ over (reply 0x80000004 invalid_bind_status sequence (submit_body None)) space.old }
 {
     reply::submit(
         space,
         status::INVALID_BIND_STATUS,
         sequence,
-        MessageId::Empty,
+        None,
     )
 }
 
@@ -34,7 +32,7 @@ pub fn no_query(space: &mut [u8], status: u8, sequence: u32) -> usize
     requires { space_needed ≤ length space.old }
     ensures { wrote result space.new ≡ over (reply 0x80000003 status sequence no_query) space.old }
 {
-    reply::query(space, status, sequence, MessageId::Empty, b"", 0, 0)
+    reply::query(space, status, sequence, None, b"", 0, 0)
 }
 
 // enquire_link suits any live session.

@@ -3,7 +3,6 @@ ghost use Rattle.std.specs.Prelude.{◌≡◌, ◌+◌, ◌≤◌, length};
 ghost use Rattle.octets.specs.Stretch.{patch};
 ghost use Rattle.answers.specs.Reply.{header, reply, submit_response, query_response, space_needed, no_body, bind_body, id_text, submit_body, query_body, wrote, over};
 
-use forms::text::MessageId;
 
 // The longest reply: a query's, 16 + 9 + 17 + 2.
 pub const SPACE_NEEDED: usize = 44;
@@ -25,16 +24,16 @@ pub fn put_header(space: &mut [u8], size: u32, id: u32, status: u8, sequence: u3
 }
 
 // The id and its NUL, or one NUL; how many octets that is.
-fn put_id(space: &mut [u8], at: usize, id: MessageId) -> usize
+fn put_id(space: &mut [u8], at: usize, id: Option<u32>) -> usize
     requires { at + 9 ≤ length space.old }
     ensures { (result ≡ length (id_text id)) × (space.new ≡ patch space.old at (id_text id)) }
 {
     match id {
-        MessageId::Empty => {
+        None => {
             octets::stretch::put(space, at, b"\0");
             1
         }
-        MessageId::Number(n) => {
+        Some(n) => {
             octets::number::put_hex(space, at, n);
             octets::stretch::put(space, at + 8, b"\0");
             9
@@ -61,7 +60,7 @@ pub fn bind(space: &mut [u8], id: u32, status: u8, sequence: u32) -> usize
     23
 }
 
-pub fn submit(space: &mut [u8], status: u8, sequence: u32, id: MessageId) -> usize
+pub fn submit(space: &mut [u8], status: u8, sequence: u32, id: Option<u32>) -> usize
     requires { space_needed ≤ length space.old }
     ensures { wrote result space.new ≡ over (reply submit_response status sequence (submit_body id)) space.old }
 {
@@ -76,7 +75,7 @@ pub fn query(
     space: &mut [u8],
     status: u8,
     sequence: u32,
-    id: MessageId,
+    id: Option<u32>,
     date: &[u8],
     state: u8,
     error: u8,

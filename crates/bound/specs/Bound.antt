@@ -1,8 +1,7 @@
 -- Octets on a bound session (document 01, "From octets to a response" and "Effects"; document 02, 1): what is asked of one account, given its book
 -- record, what it has stored (its part of the table, its last id), and the receipt that is outstanding on the session.
-use Rattle.std.specs.Prelude.{ℕ, ◌-◌, Bool, true, false, List, eqb, length, take, drop}
+use Rattle.std.specs.Prelude.{ℕ, ◌-◌, Bool, true, false, List, eqb, length, take, drop, None, Some}
 use Rattle.octets.specs.Choice.{when◌then◌else◌}
-use Rattle.forms.specs.declared.text.MessageId.TheVariants.{Empty, Number}
 use Rattle.forms.specs.Field.{text_of}
 use Rattle.wire.specs.Status.{invalid_command_id, invalid_bind_status, already_bound}
 use Rattle.wire.specs.Frame.{frame_of, header_of}
@@ -54,7 +53,7 @@ by_transmitter transmitter body stored turn = when transmitter then turn else tu
 unfoldable pub submit_turn : Bool → List ℕ → List ℕ → Stored → Turn
 submit_turn transmitter book body stored =
     let s = submitted book body stored.part stored.last in
-    by_transmitter transmitter (submit_body Empty) stored (turning s.status (submit_body s.id) (storing s.part s.last))
+    by_transmitter transmitter (submit_body None) stored (turning s.status (submit_body s.id) (storing s.part s.last))
 
 -- wire values of message states: 002's 7.4 lists them in this order and gives no numbers; we count from 0
 abbrev pub wire_state : ℕ → ℕ
@@ -62,7 +61,7 @@ wire_state state = state - 1
 
 -- the id, final date or none, wire state, error code
 abbrev pub found_body : List ℕ → List ℕ
-found_body r = query_body (Number (id_of r)) (text_of (date_of r)) (wire_state (state_of r)) (error_of r)
+found_body r = query_body (Some (id_of r)) (text_of (date_of r)) (wire_state (state_of r)) (error_of r)
 
 unfoldable pub query_turn : Bool → List ℕ → List ℕ → Stored → Turn
 query_turn transmitter book body stored =

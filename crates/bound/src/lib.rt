@@ -13,7 +13,6 @@ ghost use Rattle.store.specs.Places.{record_at};
 ghost use Rattle.bound.specs.Bound.{wire_state, found_body, submit_turn, query_turn, cancel_turn, replace_turn, unbind_turn, replying, bound_pdu, bound_frame, on_bound, storing, holding, settled_by, acts, handles};
 
 use answers::{fixed, reply};
-use forms::text::MessageId;
 use records::layout;
 use requests::plain;
 use session::{Receipt, number};
@@ -99,7 +98,7 @@ fn write_found(part: &[u8], k: usize, status: u8, sequence: u32, space: &mut [u8
         space,
         status,
         sequence,
-        MessageId::Number(id),
+        Some(id),
         date,
         state,
         error,

@@ -1,6 +1,6 @@
 -- The forms of a text (document 01, "Fields and their status"): said once, on the text without its NUL, for what is received and for
 -- what is stored.
-use Rattle.std.specs.Prelude.{ℕ, ◌-◌, Bool, ◌&&◌, ◌||◌, List, map, length, drop, ltb, leb, eqb}
+use Rattle.std.specs.Prelude.{ℕ, ◌-◌, Bool, ◌&&◌, ◌||◌, List, map, length, drop, ltb, leb, eqb, None, Option, Some}
 use Rattle.octets.specs.Choice.{when◌then◌else◌}
 use Rattle.octets.specs.Stretch.{every}
 use Rattle.octets.specs.Lent.{Lent, lent_from}
@@ -9,8 +9,6 @@ use Rattle.forms.specs.Class.{within, in_class, lead}
 use Rattle.forms.specs.declared.class.Class.TheVariants.{Ascii, Space, Decimal, Hexadecimal}
 use Rattle.forms.specs.declared.text.Form.{Form}
 use Rattle.forms.specs.declared.text.Form.TheVariants.{Digits, Address, AddressOrNone, MessageIdOrNone}
-use Rattle.forms.specs.declared.text.MessageId.{MessageId}
-use Rattle.forms.specs.declared.text.MessageId.TheVariants.{Empty, Number}
 
 -- a short message has at most 140 octets
 abbrev pub longest_text : ℕ
@@ -61,5 +59,5 @@ abbrev pub hex_value : List ℕ → ℕ
 hex_value digits = onto 16 0 (map nibble digits)
 
 -- a message id, read as a number; an empty one is not the number 0
-unfoldable pub message_id : List ℕ → MessageId
-message_id t = when empty t then Empty else Number (hex_value (after_spaces t))
+unfoldable pub message_id : List ℕ → Option ℕ
+message_id t = when empty t then None else Some (hex_value (after_spaces t))

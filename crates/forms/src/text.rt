@@ -80,19 +80,13 @@ fn hex_value(digits: &[u8]) -> u32
 }
 
 // A message id as a request gives it: none, which is not the number 0.
-#[derive(Clone, Copy)]
-pub enum MessageId {
-    Empty,
-    Number(u32),
-}
-
-pub fn message_id(text: &[u8]) -> MessageId
+pub fn message_id(text: &[u8]) -> Option<u32>
     requires { length text.now ≤ 8 }
     ensures { result ≡ message_id text.now }
 {
     if text.len() == 0 {
-        MessageId::Empty
+        None
     } else {
-        MessageId::Number(hex_value(after_spaces(text)))
+        Some(hex_value(after_spaces(text)))
     }
 }

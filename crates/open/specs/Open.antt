@@ -1,7 +1,6 @@
 -- Octets on an open session (document 01, "From octets to a response" and "Effects"): it has no account, and the table has no say.
-use Rattle.std.specs.Prelude.{ℕ, Bool, true, false, not, List, eqb, length, take, drop}
+use Rattle.std.specs.Prelude.{ℕ, Bool, true, false, not, List, eqb, length, take, drop, None}
 use Rattle.octets.specs.Choice.{when◌then◌else◌}
-use Rattle.forms.specs.declared.text.MessageId.TheVariants.{Empty}
 use Rattle.wire.specs.Status.{invalid_command_id, invalid_bind_status, invalid_password}
 use Rattle.wire.specs.Frame.{frame_of, header_of}
 use Rattle.wire.specs.Command.{Command, BindReceiver, BindTransmitter, QuerySm, SubmitSm, Unbind, ReplaceSm, CancelSm, EnquireLink, Response, Unknown, response_to, command_of}
@@ -56,7 +55,7 @@ module _ (book : List ℕ) (n sequence : ℕ) (body space : List ℕ) where
   open_command BindReceiver = open_bind true (response_to 1) book n sequence body space
   open_command BindTransmitter = open_bind false (response_to 2) book n sequence body space
   open_command QuerySm = stays (replied_to n (response_to 3) invalid_bind_status sequence no_query space)
-  open_command SubmitSm = stays (replied_to n (response_to 4) invalid_bind_status sequence (submit_body Empty) space)
+  open_command SubmitSm = stays (replied_to n (response_to 4) invalid_bind_status sequence (submit_body None) space)
   open_command Unbind = stays (replied_to n (response_to 6) invalid_bind_status sequence no_body space)
   open_command ReplaceSm = stays (replied_to n (response_to 7) invalid_bind_status sequence no_body space)
   open_command CancelSm = stays (replied_to n (response_to 8) invalid_bind_status sequence no_body space)

@@ -1,10 +1,10 @@
 -- Octets on an open session, by cases: what holds of each answer that leaves it open, of each bind, and of the answer that ends it, holds of
 -- whatever comes. Assumes nothing.
+use Rattle.std.specs.Prelude.{None}
 use mathlib.Core.Bool.{Bool, true, false}
 use mathlib.Core.List.{List}
 use Prim.Native.Nat.{ℕ}
 use native.Mathlib.Omega.{arith}
-use Rattle.forms.specs.declared.text.MessageId.TheVariants.{Empty}
 use Rattle.wire.specs.Command.{Command, BindReceiver, BindTransmitter, QuerySm, SubmitSm, Unbind, ReplaceSm, CancelSm, EnquireLink, Response, Unknown, command_of}
 use Rattle.wire.specs.Frame.{frame_of}
 use Rattle.wire.specs.declared.frame.Frame.{Frame}
@@ -31,7 +31,7 @@ module _ (book : List ℕ) (x : Octets) (P : Front Answer → Type 0) where
     command-cases n sequence body BindReceiver = each.binds n _ sequence true body
     command-cases n sequence body BindTransmitter = each.binds n _ sequence false body
     command-cases n sequence body QuerySm = each.replies n _ _ sequence _ none-brief
-    command-cases n sequence body SubmitSm = each.replies n _ _ sequence _ (id-brief Empty)
+    command-cases n sequence body SubmitSm = each.replies n _ _ sequence _ (id-brief None)
     command-cases n sequence body Unbind = each.replies n _ _ sequence _ (omega arith)
     command-cases n sequence body ReplaceSm = each.replies n _ _ sequence _ (omega arith)
     command-cases n sequence body CancelSm = each.replies n _ _ sequence _ (omega arith)

@@ -1,9 +1,9 @@
 -- A contract whose left side gathers what leaves a call allows one result only: what the shapes gather can be read off them. Assumes nothing.
+use Rattle.std.specs.Prelude.{Option}
 use Prim.Native.Nat.{ℕ}
 use mathlib.Core.Path.{◌≡◌, ap, ap₂}
 use mathlib.Core.Bool.{Bool}
 use mathlib.Core.List.{List}
-use Rattle.forms.specs.declared.text.MessageId.{MessageId}
 use Rattle.session.specs.declared.Entry.{Entry}
 use Rattle.session.specs.declared.Receipt.{Receipt}
 use Rattle.session.specs.declared.State.{State}
@@ -98,7 +98,7 @@ one-gave g g' part part' e =
     let same : giving g.status g.id g.last ≡ giving g'.status g'.id g'.last = rw (status, id, last) in
     (same, ap (λ (s : Submitted). s.part) e)
   where
-    giving : ℕ → MessageId → ℕ → Given
+    giving : ℕ → Option ℕ → ℕ → Given
     giving status id last = record { status = status; id = id; last = last }
 
 pub one_placed : (part : List ℕ) (r r' : Placed) → placed r part ≡ placed r' part → r ≡ r'

@@ -1,12 +1,11 @@
 -- Leading spaces don't count when system_id, system_type and addresses are compared (document 02, 2): what the comparisons of crate records come to, and
 -- that whoever writes a name or an address with other leading spaces finds the same account and the same messages.
-use Rattle.std.specs.Prelude.{ℕ, ◌≤◌, ◌≡◌, true, false, ◌&&◌, List, [], ◌∷◌, ◌++◌, length, take, drop, replicate, eqb}
+use Rattle.std.specs.Prelude.{ℕ, ◌≤◌, ◌≡◌, true, false, ◌&&◌, List, [], ◌∷◌, ◌++◌, length, take, drop, replicate, eqb, Option}
 use Rattle.octets.specs.Stretch.{padded, same, every}
 use Rattle.octets.specs.Equivalence.{Equivalence}
 use Rattle.forms.specs.Class.{in_class, lead}
 use Rattle.forms.specs.Field.{text_of}
 use Rattle.forms.specs.declared.class.Class.TheVariants.{NotNul, Space}
-use Rattle.forms.specs.declared.text.MessageId.{MessageId}
 use Rattle.wire.specs.declared.fields.Address.{Address}
 use Rattle.requests.specs.declared.replace.Replace.{Replace}
 use Rattle.records.specs.Book.{book_record, system_of, system_type_of, used_ok, same_name, spaces_only, same_system_id, same_address, named}
@@ -62,7 +61,7 @@ pub record Finds : Type 0 where
   pub account : (system system' kind kind' book : List ℕ) → same_system_id system system' ≡ true → same_name kind kind' ≡ true
       → named_place system kind book ≡ named_place system' kind' book
   -- a query: the same message
-  pub query : (book part : List ℕ) (id : MessageId) (s s' : Address) → same_address (source_for book s.octets) (source_for book s'.octets) ≡ true
+  pub query : (book part : List ℕ) (id : Option ℕ) (s s' : Address) → same_address (source_for book s.octets) (source_for book s'.octets) ≡ true
       → looked_up book (record { id = id; source = s }) part ≡ looked_up book (record { id = id; source = s' }) part
   -- a submission with the replace flag: the same message
   pub pair : (source source' destination destination' part : List ℕ) → same_address source source' ≡ true → same_address destination destination' ≡ true

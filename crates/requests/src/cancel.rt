@@ -3,7 +3,7 @@ ghost use Rattle.std.specs.Prelude.{◌≡◌};
 ghost use Rattle.wire.specs.Fields.{Inside};
 ghost use Rattle.requests.specs.Cancel.{cancel_of};
 
-use forms::text::{Form, MessageId};
+use forms::text::Form;
 use wire::cursor::Cursor;
 use wire::fields::{Address, Span};
 use wire::{fields, status};
@@ -11,7 +11,7 @@ use wire::{fields, status};
 #[derive(Clone, Copy)]
 pub struct Cancel {
     pub service: Span,
-    pub id: MessageId,
+    pub id: Option<u32>,
     pub source: Address,
     pub destination: Address,
 }

@@ -2,14 +2,13 @@
 ghost use Rattle.std.specs.Prelude.{◌≡◌};
 ghost use Rattle.requests.specs.Query.{query_of};
 
-use forms::text::MessageId;
 use wire::cursor::Cursor;
 use wire::fields::Address;
 use wire::{fields, status};
 
 #[derive(Clone, Copy)]
 pub struct Query {
-    pub id: MessageId,
+    pub id: Option<u32>,
     pub source: Address,
 }
 

@@ -2,14 +2,13 @@
 ghost use Rattle.std.specs.Prelude.{◌≡◌};
 ghost use Rattle.requests.specs.Replace.{replace_of, ReplaceInside};
 
-use forms::text::MessageId;
 use wire::cursor::Cursor;
 use wire::fields::{Address, Span, Time};
 use wire::{fields, status};
 
 #[derive(Clone, Copy)]
 pub struct Replace {
-    pub id: MessageId,
+    pub id: Option<u32>,
     pub source: Address,
     pub schedule: Time,
     pub validity: Time,

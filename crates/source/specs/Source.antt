@@ -1,9 +1,7 @@
 -- Whose message it is (document 01, "Effects"): an empty source means the callback's ton, npi and address; otherwise all three come from the
 -- request. And the record that a message id names.
-use Rattle.std.specs.Prelude.{ℕ, Bool, List, get_or, eqb}
+use Rattle.std.specs.Prelude.{ℕ, Bool, List, get_or, eqb, None, Option, Some}
 use Rattle.octets.specs.Choice.{when◌then◌else◌}
-use Rattle.forms.specs.declared.text.MessageId.{MessageId}
-use Rattle.forms.specs.declared.text.MessageId.TheVariants.{Empty, Number}
 use Rattle.records.specs.Book.{callback_of}
 use Rattle.store.specs.Search.{place_of}
 use Rattle.store.specs.declared.places.Found.{Found}
@@ -17,6 +15,6 @@ unfoldable pub source_for : List ℕ → List ℕ → List ℕ
 source_for book source = when no_address source then callback_of book else source
 
 -- an empty id names no record
-unfoldable pub known : MessageId → List ℕ → Found
-known Empty xs = Nowhere
-known (Number id) xs = place_of id xs
+unfoldable pub known : Option ℕ → List ℕ → Found
+known None xs = Nowhere
+known (Some id) xs = place_of id xs

@@ -8,7 +8,6 @@ ghost use Rattle.store.specs.Places.{OnePlace};
 ghost use Rattle.source.specs.Source.{no_address, source_for, known};
 
 use forms::field;
-use forms::text::MessageId;
 use records::book;
 use store::places::Found;
 use wire::fields::Address;
@@ -35,12 +34,12 @@ pub fn source_for(book: &[u8], source: Address) -> Address
 }
 
 // The record that a message id names.
-pub fn find_known(part: &[u8], id: MessageId) -> Found
+pub fn find_known(part: &[u8], id: Option<u32>) -> Found
     requires { length part.now ≡ part_size }
     ensures { (result ≡ known id part.now) × OnePlace result }
 {
     match id {
-        MessageId::Empty => Found::Nowhere,
-        MessageId::Number(n) => store::search::find_id(part, n),
+        None => Found::Nowhere,
+        Some(n) => store::search::find_id(part, n),
     }
 }

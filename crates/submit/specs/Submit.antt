@@ -1,8 +1,6 @@
 -- submit_sm (document 01, "Effects").
-use Rattle.std.specs.Prelude.{ℕ, ◌+◌, not, List, eqb}
+use Rattle.std.specs.Prelude.{ℕ, ◌+◌, not, List, eqb, None, Option, Some}
 use Rattle.octets.specs.Choice.{when◌then◌else◌}
-use Rattle.forms.specs.declared.text.MessageId.{MessageId}
-use Rattle.forms.specs.declared.text.MessageId.TheVariants.{Empty, Number}
 use Rattle.wire.specs.Status.{system_error, invalid_destination, queue_full}
 use Rattle.wire.specs.Fields.{octets_of}
 use Rattle.requests.specs.Submit.{submit_of}
@@ -20,7 +18,7 @@ use Rattle.source.specs.Source.{no_address, source_for}
 -- what a submission gives: the status, the id returned, and the account's part and last id afterwards
 pub record Submitted : Type 0 where
   pub status : ℕ
-  pub id : MessageId
+  pub id : Option ℕ
   pub part : List ℕ
   pub last : ℕ
 
@@ -30,7 +28,7 @@ gave g part = record { status = g.status; id = g.id; part = part; last = g.last 
 
 -- neither the part nor the last id changes
 abbrev pub refused : ℕ → List ℕ → ℕ → Submitted
-refused status part last = record { status = status; id = Empty; part = part; last = last }
+refused status part last = record { status = status; id = None; part = part; last = last }
 
 abbrev pub fields_of : List ℕ → Submit → Fields
 fields_of source s =
@@ -55,7 +53,7 @@ added source s body part last =
     else on_found (new_place part)
     (λ k. record {
       status = 0;
-      id = Number (last + 1);
+      id = Some (last + 1);
       part = on_place (λ r. new_record (last + 1) (fields_of source s) (octets_of s.service body) (octets_of s.text body)) k part;
       last = last + 1;
     })
@@ -71,7 +69,7 @@ stored source s body part last =
     on_found (to_replace source s part)
     (λ k. record {
       status = 0;
-      id = Number (id_of (record_at k part));
+      id = Some (id_of (record_at k part));
       part = on_place (retexted s.default (octets_of s.text body)) k part;
       last = last;
     })

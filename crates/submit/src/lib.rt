@@ -9,7 +9,6 @@ ghost use Rattle.store.specs.Places.{OnePlace};
 ghost use Rattle.submit.specs.Submit.{fields_of, added, to_replace, stored, submitted, gave};
 
 use changes::Fields;
-use forms::text::MessageId;
 use requests::submit::Submit;
 use store::places::Found;
 use wire::fields::Address;
@@ -21,16 +20,16 @@ const LAST_OF_ALL: u32 = 0xFFFF_FFFF;
 #[derive(Clone, Copy)]
 pub struct Given {
     pub status: u8,
-    pub id: MessageId,
+    pub id: Option<u32>,
     pub last: u32,
 }
 
 fn refuse(status: u8, last: u32) -> Given
-    ensures { result ≡ record { status = status; id = MessageId.Empty; last = last } }
+    ensures { result ≡ record { status = status; id = None; last = last } }
 {
     Given {
         status,
-        id: MessageId::Empty,
+        id: None,
         last,
     }
 }
@@ -84,7 +83,7 @@ fn add(part: &mut [u8], last: u32, source: Address, s: Submit, body: &[u8]) -> G
     );
     Given {
         status: status::OK,
-        id: MessageId::Number(id),
+        id: Some(id),
         last: id,
     }
 }
@@ -117,7 +116,7 @@ fn store_in(part: &mut [u8], last: u32, source: Address, s: Submit, body: &[u8])
     changes::retext(part, k, s.default, fields::octets_of(body, text));
     Given {
         status: status::OK,
-        id: MessageId::Number(id),
+        id: Some(id),
         last,
     }
 }

@@ -1,8 +1,7 @@
 -- The twelve examples of document 01, P1 to P12: one table, one claim, over the very `step` that the contracts of the code cite.
-use Rattle.std.specs.Prelude.{ℕ, ◌+◌, ◌*◌, ◌-◌, ◌≡◌, refl, List, [], ◌∷◌, ◌++◌, take, get_or, replicate, eqb}
+use Rattle.std.specs.Prelude.{ℕ, ◌+◌, ◌*◌, ◌-◌, ◌≡◌, refl, List, [], ◌∷◌, ◌++◌, take, get_or, replicate, eqb, Some}
 use Rattle.octets.specs.Choice.{when◌then◌else◌}
 use Rattle.octets.specs.Rows.{rows}
-use Rattle.forms.specs.declared.text.MessageId.TheVariants.{Number}
 use Rattle.wire.specs.Cursor.{start}
 use Rattle.wire.specs.Fields.{id_at}
 use Rattle.wire.specs.declared.fields.IdRead.{IdRead}
@@ -150,7 +149,7 @@ examples =
     (taking two_accounts bound (sends 0 (pdu 3 4 query))
     (gives (answers 0 21 20 (0x00 ∷ 0x00 ∷ 0x00 ∷ 0x14 ∷ 0x80 ∷ 0x00 ∷ 0x00 ∷ 0x03 ∷ 0x00 ∷ 0x00 ∷ 0x00 ∷ 0x0C ∷ 0x00 ∷ 0x00 ∷ 0x00 ∷ 0x04 ∷ 0x00 ∷ 0x00 ∷ 0x00 ∷ 0x00 ∷ [])) (Transmitter 0)))
     -- id text "  1a" is 26
-    ∷ row P10 (reading (ended (32 ∷ 32 ∷ 49 ∷ 97 ∷ [])) (record { value = Number 26; next = record { at = 5; status = 0 } }))
+    ∷ row P10 (reading (ended (32 ∷ 32 ∷ 49 ∷ 97 ∷ [])) (record { value = Some 26; next = record { at = 5; status = 0 } }))
     -- transmitter bind, wrong password, sequence 1
     ∷ row P11
     (taking two_accounts opened_with (sends 0 (pdu 2 1 (bind paging plant vma)))

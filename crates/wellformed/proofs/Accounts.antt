@@ -1,5 +1,6 @@
 -- Each effect leaves a well-formed account well formed, with the last id that it gives back. A query changes nothing: it gives back neither a part
 -- nor a last id. Assumes nothing.
+use Rattle.std.specs.Prelude.{None, Option, Some}
 use mathlib.Core.Path.{◌≡◌, refl, ◌∙◌}
 use mathlib.Core.Bool.{Bool, true, false, not, ◌&&◌, ◌||◌}
 use mathlib.Core.Logic.{◌⊎◌, inl, inr, ⊎_elim, ⊎_map}
@@ -13,8 +14,6 @@ use Rattle.octets.proofs.StretchLaws.{and_left, and_right, if-cases}
 use Rattle.forms.specs.Class.{within}
 use Rattle.forms.specs.Time.{sent_time}
 use Rattle.forms.proofs.ClassLaws.{within_low}
-use Rattle.forms.specs.declared.text.MessageId.{MessageId}
-use Rattle.forms.specs.declared.text.MessageId.TheVariants.{Empty, Number}
 use Rattle.wire.specs.Fields.{octets_of}
 use Rattle.wire.specs.declared.frame.Header.{Header}
 use Rattle.records.specs.Layout.{record_size, places, part_size, state_of, id_of, source_of, destination_of}
@@ -50,10 +49,10 @@ use Rattle.wellformed.proofs.Parts.{Follows, follows_same, follows-good, waiting
 never : {A : Type 0} {k : ℕ} → Nowhere ≡ At k → A
 never e = let z : ◌≡◌ {A = ℕ} 0 1 = cc in absurd (omega arith)
 
-pub known-place : (id : MessageId) (part : List ℕ) (k : ℕ) → known id part ≡ At k → k < places
+pub known-place : (id : Option ℕ) (part : List ℕ) (k : ℕ) → known id part ≡ At k → k < places
 unfolding known
-known-place Empty part k e = never e
-known-place (Number id) part k e = found-place (has_id id) id_of part k e
+known-place None part k e = never e
+known-place (Some id) part k e = found-place (has_id id) id_of part k e
 
 either-place : (a b : Found) (k : ℕ) → or_else a b ≡ At k → (a ≡ At k) ⊎ (b ≡ At k)
 unfolding or_else

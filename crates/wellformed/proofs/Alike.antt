@@ -1,9 +1,9 @@
 -- What an effect does with an address, it does with one that is the same but for leading spaces. Assumes nothing.
+use Rattle.std.specs.Prelude.{Option}
 use mathlib.Core.Path.{◌≡◌, fun_ext}
 use mathlib.Core.Bool.{true}
 use mathlib.Core.List.{List}
 use Prim.Native.Nat.{ℕ}
-use Rattle.forms.specs.declared.text.MessageId.{MessageId}
 use Rattle.wire.specs.declared.fields.Address.{Address}
 use Rattle.requests.specs.declared.replace.Replace.{Replace}
 use Rattle.records.specs.Book.{same_address}
@@ -14,7 +14,7 @@ use Rattle.account.specs.Query.{looked_up}
 use Rattle.account.specs.Cancel.{cancellable, cancelled_one, deleted_if, cancelled_all}
 use Rattle.account.specs.Replace.{replaced_in}
 
-pub query-alike : (book part : List ℕ) (id : MessageId) (s s' : Address) → same_address (source_for book s.octets) (source_for book s'.octets) ≡ true
+pub query-alike : (book part : List ℕ) (id : Option ℕ) (s s' : Address) → same_address (source_for book s.octets) (source_for book s'.octets) ≡ true
     → looked_up book (record { id = id; source = s }) part ≡ looked_up book (record { id = id; source = s' }) part
 unfolding looked_up
 query-alike book part id s s' h = simp (with-address (source_for book s.octets) (source_for book s'.octets) h)

@@ -1,4 +1,5 @@
 -- Each effect by cases: what holds of a refusal, which changes nothing, and of each change, holds of the effect. Assumes nothing.
+use Rattle.std.specs.Prelude.{None, Option, Some}
 use mathlib.Core.Path.{◌≡◌, refl, sym, ap}
 use mathlib.Core.Bool.{true, false, not, ◌&&◌}
 use mathlib.Core.List.{List}
@@ -8,8 +9,6 @@ use lib.Dec.{eqb}
 use borrow.Author.Tests.{eqb-true, eqb-false, not-true, not-false}
 use Rattle.octets.specs.Choice.{when◌then◌else◌}
 use Rattle.octets.proofs.StretchLaws.{and_left, and_right, if-cases}
-use Rattle.forms.specs.declared.text.MessageId.{MessageId}
-use Rattle.forms.specs.declared.text.MessageId.TheVariants.{Empty, Number}
 use Rattle.wire.specs.Command.{response_to}
 use Rattle.wire.specs.declared.frame.Header.{Header}
 use Rattle.requests.specs.Submit.{submit_of}
@@ -59,21 +58,21 @@ module _ (book body part : List ℕ) (last : ℕ) (P : Submitted → Type 0) whe
       found-cases P _ _ _ (λ k e. adds k ok given (eqb-false last 0xFFFFFFFF room) e) λ _. refuses 20 (omega arith)
 
 module _ (stamp part : List ℕ) (P : Changed → Type 0) (refuses : (status : ℕ) → (status ≡ 0 → ⊥) → P (changed status part)) where
-  by-id : (id : MessageId) (source destination : List ℕ)
+  by-id : (id : Option ℕ) (source destination : List ℕ)
       → ((k : ℕ) → known id part ≡ At k → cancellable source destination (record_at k part) ≡ true → P (deleted_at stamp part k))
-      → (id ≡ Empty → P (changed 0 (on_places (deleted_if source destination stamp) places 0 part)))
+      → (id ≡ None → P (changed 0 (on_places (deleted_if source destination stamp) places 0 part)))
       → P (cancelled_by id source destination stamp part)
   unfolding cancelled_one cancelled_all known
-  by-id Empty source destination one all =
+  by-id None source destination one all =
       if-cases P _ _ _ (λ _. refuses 11 (omega arith)) λ _.
       found-cases P (pair_place source destination part) _ _ (λ _ _. all refl) λ _. refuses 17 (omega arith)
-  by-id (Number id) source destination one all =
+  by-id (Some id) source destination one all =
       found-cases P _ _ _ (λ k e. if-cases P _ _ _ (one k e) λ _. refuses 17 (omega arith)) λ _. refuses 12 (omega arith)
 
   pub cancelled-cases : (book body : List ℕ)
       → ((k : ℕ) → known (cancellation body).id part ≡ At k → cancellable (canceller book body) (cancellation body).destination.octets (record_at k part) ≡ true
       → P (deleted_at stamp part k))
-      → ((cancellation body).id ≡ Empty → P (deleted_all book stamp body part))
+      → ((cancellation body).id ≡ None → P (deleted_all book stamp body part))
       → P (cancelled book stamp body part)
   unfolding cancelled
   cancelled-cases book body one all = read-cases P (cancel_of body).status _ _ (refuses _) λ _. by-id _ _ _ one all

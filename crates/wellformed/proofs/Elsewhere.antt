@@ -1,5 +1,6 @@
 -- The places that an effect doesn't name keep their octets; a cancellation without an id deletes each record that is waiting between the two addresses,
 -- and keeps each that isn't. Assumes nothing.
+use Rattle.std.specs.Prelude.{None, Some}
 use mathlib.Core.Path.{◌≡◌, refl, sym, ap, ◌∙◌}
 use mathlib.Core.Bool.{true, false, ◌&&◌}
 use mathlib.Core.List.{List}
@@ -7,7 +8,6 @@ use Prim.Native.Nat.{ℕ, ◌+◌, ◌≤◌, ◌<◌}
 use native.Mathlib.Omega.{arith}
 use lib.ListN.{length}
 use Rattle.octets.proofs.StretchLaws.{if-true, if-false}
-use Rattle.forms.specs.declared.text.MessageId.TheVariants.{Empty, Number}
 use Rattle.wire.specs.Fields.{octets_of}
 use Rattle.records.specs.Layout.{record_size, places, part_size}
 use Rattle.store.specs.Places.{record_at, on_place}
@@ -73,7 +73,7 @@ module _ (part : List ℕ) (j : ℕ) where
 
   module _ (book stamp body : List ℕ) where
     -- with an id
-    pub cancelled-elsewhere : (id : ℕ) → (cancellation body).id ≡ Number id → (place_of id part ≡ At j → ⊥) → record_at j (cancelled book stamp body part).part ≡ record_at j part
+    pub cancelled-elsewhere : (id : ℕ) → (cancellation body).id ≡ Some id → (place_of id part ≡ At j → ⊥) → record_at j (cancelled book stamp body part).part ≡ record_at j part
     unfolding known
     cancelled-elsewhere id is ne =
         cancelled-cases stamp part (λ (r : Changed). Kept r.part) (λ _ _. refl) book body
@@ -81,7 +81,7 @@ module _ (part : List ℕ) (j : ℕ) where
         (λ empty. let z : ◌≡◌ {A = ℕ} 0 1 = cc in absurd (omega arith))
 
     -- without one
-    pub cancelled-each : (cancellation body).id ≡ Empty → (cancelled book stamp body part).status ≡ 0 → length part ≡ part_size → j < places
+    pub cancelled-each : (cancellation body).id ≡ None → (cancelled book stamp body part).status ≡ 0 → length part ≡ part_size → j < places
         → record_at j (cancelled book stamp body part).part ≡ deleted_if (canceller book body) (cancellation body).destination.octets stamp (record_at j part)
     unfolding known
     cancelled-each is done whole h =

@@ -1,4 +1,5 @@
 -- An issued id is last plus 1, and no record of the account has it. Assumes nothing.
+use Rattle.std.specs.Prelude.{Some}
 use mathlib.Core.Path.{◌≡◌, refl, sym, ◌∙◌}
 use mathlib.Core.Bool.{Bool, true, false, not, ◌&&◌, false≢true}
 use mathlib.Core.List.{List}
@@ -6,7 +7,6 @@ use Prim.Native.Nat.{ℕ, ◌+◌, ◌≤◌, ◌<◌}
 use native.Mathlib.Omega.{arith}
 use lib.Dec.{eqb}
 use borrow.Author.Tests.{ne_eqb}
-use Rattle.forms.specs.declared.text.MessageId.TheVariants.{Number}
 use Rattle.records.specs.Layout.{places, id_of}
 use Rattle.store.specs.Places.{record_at}
 use Rattle.store.specs.Search.{is_empty, has_id, place_of}
@@ -22,9 +22,9 @@ use Rattle.wellformed.proofs.Parts.{id-within}
 module _ (book body part : List ℕ) (last : ℕ) where
   -- a last id that changes is one more, and is the id returned
   pub issued : ((submitted book body part last).last ≡ last → ⊥)
-      → ((submitted book body part last).last ≡ last + 1) × ((submitted book body part last).id ≡ Number (submitted book body part last).last)
+      → ((submitted book body part last).last ≡ last + 1) × ((submitted book body part last).id ≡ Some (submitted book body part last).last)
   issued =
-      submitted-cases book body part last (λ (r : Submitted). (r.last ≡ last → ⊥) → (r.last ≡ last + 1) × (r.id ≡ Number r.last))
+      submitted-cases book body part last (λ (r : Submitted). (r.last ≡ last → ⊥) → (r.last ≡ last + 1) × (r.id ≡ Some r.last))
       (λ _ _ ne. absurd (ne refl)) (λ _ _ _ ne. absurd (ne refl)) (λ _ _ _ _ _ _. (refl, refl))
 
   -- it stays a 32-bit number

@@ -1,6 +1,5 @@
 -- What an effect of an account can come to besides a refusal, by name.
-use Rattle.std.specs.Prelude.{ℕ, ◌+◌, true, List}
-use Rattle.forms.specs.declared.text.MessageId.TheVariants.{Number}
+use Rattle.std.specs.Prelude.{ℕ, ◌+◌, true, List, Some}
 use Rattle.wire.specs.Fields.{octets_of}
 use Rattle.requests.specs.Submit.{submit_of}
 use Rattle.requests.specs.Cancel.{cancel_of}
@@ -31,7 +30,7 @@ abbrev pub retexted_at : List ℕ → List ℕ → ℕ → ℕ → Submitted
 retexted_at body part last k =
     record {
       status = 0;
-      id = Number (id_of (record_at k part));
+      id = Some (id_of (record_at k part));
       part = on_place (retexted (submission body).default (octets_of (submission body).text body)) k part;
       last = last;
     }
@@ -46,7 +45,7 @@ abbrev pub added_at : List ℕ → List ℕ → List ℕ → ℕ → ℕ → Sub
 added_at book body part last k =
     record {
       status = 0;
-      id = Number (last + 1);
+      id = Some (last + 1);
       part = on_place (λ r. submitted_record book body (last + 1)) k part;
       last = last + 1;
     }

@@ -6,7 +6,7 @@ ghost use Rattle.wire.specs.Fields.{Inside, span_part, no_span, no_time, octet_a
 use crate::cursor::Cursor;
 use crate::status;
 use forms::class::Class;
-use forms::text::{Form, MessageId};
+use forms::text::Form;
 use forms::{field, text, time};
 
 // A time's characters and their NUL.
@@ -144,7 +144,7 @@ pub fn read_address(body: &[u8], c: Cursor, bad: u8) -> AddressRead
 
 #[derive(Clone, Copy)]
 pub struct IdRead {
-    pub value: MessageId,
+    pub value: Option<u32>,
     pub next: Cursor,
 }
 

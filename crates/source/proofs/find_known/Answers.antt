@@ -2,10 +2,10 @@
 use Rattle.source.specs.Source.{known}
 use Rattle.source.proofs.find_known.Goals as goal
 
-pub returns-in-Empty : goal.returns-in-Empty
+pub returns-in-None : goal.returns-in-None
 unfolding known
-returns-in-Empty c = (rw c.in-Empty.is, tt)
+returns-in-None c = (rw c.in-None.is, tt)
 
-pub returns-in-Number : goal.returns-in-Number
+pub returns-in-Some : goal.returns-in-Some
 unfolding known
-returns-in-Number c = rw c.in-Number.is c.find_id.ensures
+returns-in-Some c = rw c.in-Some.is c.find_id.ensures

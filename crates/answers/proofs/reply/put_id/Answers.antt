@@ -6,10 +6,10 @@ use Rattle.octets.proofs.PatchLaws.{patch-next}
 use Rattle.answers.specs.Reply.{id_text}
 use Rattle.answers.proofs.reply.put_id.Goals as goal
 
-pub returns-in-Empty : goal.returns-in-Empty
+pub returns-in-None : goal.returns-in-None
 unfolding id_text
-returns-in-Empty c = rw c.in-Empty.is (refl, c.put.ensures)
+returns-in-None c = rw c.in-None.is (refl, c.put.ensures)
 
-pub returns-in-Number : goal.returns-in-Number
+pub returns-in-Some : goal.returns-in-Some
 unfolding id_text hex8
-returns-in-Number c = rw c.in-Number.is (refl, rw c.put_hex.ensures at c.put-in-Number.ensures ∙ patch-next c.args.space.now c.args.at (hex8 c.in-Number.n) (0 ∷ []))
+returns-in-Some c = rw c.in-Some.is (refl, rw c.put_hex.ensures at c.put-in-Some.ensures ∙ patch-next c.args.space.now c.args.at (hex8 c.in-Some.n) (0 ∷ []))
