@@ -1,6 +1,6 @@
 -- Octets on a bound session (document 01, "From octets to a response" and "Effects"; document 02, 1): what is asked of one account, given its book
 -- record, what it has stored (its part of the table, its last id), and the receipt that is outstanding on the session.
-use Rattle.std.specs.Prelude.{ℕ, ◌-◌, Bool, true, false, List, eqb, length, take, drop, None, Some}
+use Rattle.std.specs.Prelude.{ℕ, ◌-◌, Bool, true, false, List, eqb, length, take, drop, Option, None, Some}
 use Rattle.octets.specs.Choice.{when◌then◌else◌}
 use Rattle.forms.specs.Field.{text_of}
 use Rattle.wire.specs.Status.{invalid_command_id, invalid_bind_status, already_bound}
@@ -116,13 +116,13 @@ bound_pdu transmitter book stamp pdu space stored =
 -- what a bound session has in hand
 pub record Hand : Type 0 where
   pub stored : Stored
-  pub receipt : Receipt
+  pub receipt : Option Receipt
 
-abbrev pub holding : List ℕ → ℕ → Receipt → Hand
+abbrev pub holding : List ℕ → ℕ → Option Receipt → Hand
 holding p n r = record { stored = storing p n; receipt = r }
 
 -- a PDU is answered, and then may settle the receipt that is outstanding: of all PDUs only a deliver_sm_resp does, which has no answer
-unfoldable pub settled_by : Header → Receipt → Effect Stored Answer → Effect Hand Answer
+unfoldable pub settled_by : Header → Option Receipt → Effect Stored Answer → Effect Hand Answer
 settled_by h receipt e =
     let c = settled h receipt e.own.part in
     record { answer = e.answer; own = holding c.part e.own.last c.receipt; ends = e.ends }

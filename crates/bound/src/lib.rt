@@ -249,7 +249,7 @@ fn command(
 #[derive(Clone, Copy)]
 pub struct Handled {
     pub acted: Acted,
-    pub receipt: Receipt,
+    pub receipt: Option<Receipt>,
 }
 
 // A PDU is answered, and then may settle the receipt.
@@ -261,7 +261,7 @@ fn handle(
     space: &mut [u8],
     part: &mut [u8],
     last: u32,
-    receipt: Receipt,
+    receipt: Option<Receipt>,
 ) -> Handled
     requires { ((length book.now ≡ book_record_size) × (length stamp.now ≡ time_length)) × ((16 ≤ length pdu.now) × ((length part.old ≡ part_size) × (space_needed ≤ length space.old))) }
     ensures { handles result part.new space.new ≡ settled_by (header_of pdu.now) receipt (bound_pdu transmitter book.now stamp.now pdu.now space.old (storing part.old last)) }
@@ -281,7 +281,7 @@ fn framed(
     space: &mut [u8],
     part: &mut [u8],
     last: u32,
-    receipt: Receipt,
+    receipt: Option<Receipt>,
 ) -> Handled
     requires { ((length book.now ≡ book_record_size) × (length stamp.now ≡ time_length)) × ((length part.old ≡ part_size) × (space_needed ≤ length space.old)) }
     ensures { handles result part.new space.new ≡ bound_frame transmitter book.now octets.now stamp.now space.old (frame_of octets.now) (holding part.old last receipt) }
@@ -325,7 +325,7 @@ pub fn on_bound(
     space: &mut [u8],
     part: &mut [u8],
     last: u32,
-    receipt: Receipt,
+    receipt: Option<Receipt>,
 ) -> Handled
     requires { ((length book.now ≡ book_record_size) × (length stamp.now ≡ time_length)) × ((length part.old ≡ part_size) × (space_needed ≤ length space.old)) }
     ensures { handles result part.new space.new ≡ on_bound transmitter book.now (record { octets = octets.entry.now; stamp = stamp.now; space = space.old }) (holding part.old last receipt) }

@@ -1,11 +1,10 @@
 -- The centre, as a machine of the platform: its `step` is what every public operation is proved to follow.
-use Rattle.std.specs.Prelude.{ℕ, ◌≤◌, ◌≡◌, Bool, not, ◌||◌, List, map, ltb, eqb, length, get_or, set}
+use Rattle.std.specs.Prelude.{ℕ, ◌≤◌, ◌≡◌, Bool, not, ◌||◌, List, map, ltb, eqb, length, get_or, set, None}
 use Rattle.octets.specs.Choice.{when◌then◌else◌}
 use Rattle.forms.specs.Time.{time_length, sent_time}
 use Rattle.answers.specs.Reply.{space_needed}
 use Rattle.records.specs.Book.{book_size, book_record}
 use Rattle.session.specs.State.{receiver_of, held_id}
-use Rattle.session.specs.declared.Receipt.TheVariants.{None}
 use Rattle.session.specs.declared.State.{State}
 use Rattle.session.specs.declared.Moved.{Moved}
 use Rattle.isolation.specs.Platform.{World, Own, owning, Step, Front, Ran, Effect, Request, on_session, of_account, Machine, table_size}

@@ -87,7 +87,7 @@ fn conclude(
     session: usize,
     account: usize,
     ends: bool,
-    receipt: Receipt,
+    receipt: Option<Receipt>,
     last: u32,
 ) -> State
     requires { (session < session_count) × (account < account_count) }

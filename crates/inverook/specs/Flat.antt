@@ -1,11 +1,10 @@
 -- The state as C holds it, and the state that it stands for.
-use Rattle.std.specs.Prelude.{ℕ, List, [], ◌∷◌, map, get_or, eqb, not, ◌&&◌}
+use Rattle.std.specs.Prelude.{ℕ, List, [], ◌∷◌, map, get_or, eqb, not, ◌&&◌, Option, None}
 use Rattle.octets.specs.Choice.{when◌then◌else◌}
-use Rattle.session.specs.State.{closed_session, entry_at, is_receiver, held_id, held_sequence}
+use Rattle.session.specs.State.{closed_session, entry_at, is_receiver, held_id, held_sequence, outstanding}
 use Rattle.session.specs.declared.Entry.{Entry}
 use Rattle.session.specs.declared.Entry.TheVariants.{Closed, Open, Transmitter, Receiver, Ended}
 use Rattle.session.specs.declared.Receipt.{Receipt}
-use Rattle.session.specs.declared.Receipt.TheVariants.{None, Outstanding}
 use Rattle.session.specs.declared.Session.{Session}
 use Rattle.session.specs.declared.State.{State}
 use Rattle.inverook.specs.declared.flat.InverookState.{InverookState}
@@ -24,8 +23,8 @@ entry_of kind account =
     else Ended
 
 -- a receipt is looked at where the kind is 3 and the id is not 0
-unfoldable pub receipt_of : ℕ → ℕ → ℕ → Receipt
-receipt_of kind id sequence = when eqb kind 3 && not (eqb id 0) then Outstanding id sequence else None
+unfoldable pub receipt_of : ℕ → ℕ → ℕ → Option Receipt
+receipt_of kind id sequence = when eqb kind 3 && not (eqb id 0) then outstanding id sequence else None
 
 abbrev pub session_at : InverookState → ℕ → Session
 session_at flat i =
@@ -52,7 +51,7 @@ entry_account (Receiver a) = a
 entry_account Ended = 0
 
 -- session i in numbers; a receipt is told of a receiver alone
-unfoldable pub receipt_at : State → ℕ → Receipt
+unfoldable pub receipt_at : State → ℕ → Option Receipt
 receipt_at st i =
     let x = get_or st.sessions i closed_session in
     when is_receiver x.entry then x.receipt else None

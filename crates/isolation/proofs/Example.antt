@@ -5,10 +5,10 @@ use mathlib.Core.Bool.{true, false}
 use mathlib.Core.List.{List, [], ◌∷◌}
 use Prim.Native.Nat.{ℕ, ◌+◌}
 use lib.ListN.{take, replicate}
+use Rattle.std.specs.Prelude.{None}
 use Rattle.octets.specs.Choice.{when◌then◌else◌}
-use Rattle.session.specs.State.{session_count, receipts_of, granting, opened, closed}
+use Rattle.session.specs.State.{session_count, receipts_of, granting, opened, closed, outstanding}
 use Rattle.session.specs.declared.Entry.TheVariants.{Receiver}
-use Rattle.session.specs.declared.Receipt.TheVariants.{None, Outstanding}
 use Rattle.session.specs.declared.State.{State}
 use Rattle.isolation.specs.Platform.{fresh, owning, Step, opens, closes, on, of, Machine, step}
 use Rattle.isolation.specs.History.{Kept, concerns, binds, after, answers_of, remaining}
@@ -31,7 +31,7 @@ counting =
       front = λ b x. record { answer = 50; after = Receiver x };
       act = λ b a q o.
           let next = o.last + 1 in
-          record { answer = next; own = owning o.part next (replicate session_count (Outstanding next a)); ends = false };
+          record { answer = next; own = owning o.part next (replicate session_count (outstanding next a)); ends = false };
     }
 
 counting-keeps : Keeps counting
@@ -77,11 +77,11 @@ answers-1 = refl
 abbrev state_after : ℕ → State
 state_after n = (after counting tt fresh (take n history)).state
 
-receipts-0 : receipts_of (state_after 7) 0 ≡ Outstanding 1 0 ∷ replicate 15 None
+receipts-0 : receipts_of (state_after 7) 0 ≡ outstanding 1 0 ∷ replicate 15 None
 unfolding step opened closed granting when◌then◌else◌ fresh
 receipts-0 = refl
 
-receipts-1 : receipts_of (state_after 7) 1 ≡ None ∷ Outstanding 2 1 ∷ replicate 14 None
+receipts-1 : receipts_of (state_after 7) 1 ≡ None ∷ outstanding 2 1 ∷ replicate 14 None
 unfolding step opened closed granting when◌then◌else◌ fresh
 receipts-1 = refl
 

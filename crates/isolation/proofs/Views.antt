@@ -9,6 +9,7 @@ use native.Mathlib.Omega.{arith}
 use native.Mathlib.Decide.{dec_lt}
 use lib.ListN.{length, get_or, set, get_or-map}
 use lib.Seq.{map-set_same, get_or-set_same, get_or-set_other}
+use Rattle.std.specs.Prelude.{Option, None}
 use Rattle.octets.specs.Choice.{when◌then◌else◌}
 use Rattle.octets.proofs.StretchLaws.{if-cases, if-true, if-false}
 use Rattle.octets.proofs.PatchLaws.{part-patch, part-before, part-after}
@@ -16,7 +17,6 @@ use Rattle.session.specs.State.{session_count, account_count, session_with, clos
 use Rattle.session.specs.declared.Entry.{Entry}
 use Rattle.session.specs.declared.Entry.TheVariants.{Closed, Open, Transmitter, Receiver, Ended}
 use Rattle.session.specs.declared.Receipt.{Receipt}
-use Rattle.session.specs.declared.Receipt.TheVariants.{None}
 use Rattle.session.specs.declared.Session.{Session}
 use Rattle.session.proofs.ReceiptLaws.{map-set, given-receipt, granting-entries, granting-others, receipts-bound}
 use Rattle.isolation.specs.Platform.{part_size, World, Own, owning, own_of, put_own, put_entry, Step, opens, closes, on, of, Machine}
@@ -37,10 +37,10 @@ pub record View : Type 0 where
 abbrev pub view : ℕ → World → View
 view A w = record { sessions = map (shown_of A) w.state.sessions; own = own_of w A }
 
-abbrev viewing : List Entry → List ℕ → ℕ → List Receipt → View
+abbrev viewing : List Entry → List ℕ → ℕ → List (Option Receipt) → View
 viewing es p n rs = record { sessions = es; own = owning p n rs }
 
-same-views : {es es' : List Entry} {p p' : List ℕ} {n n' : ℕ} {rs rs' : List Receipt} → es ≡ es' → p ≡ p' → n ≡ n' → rs ≡ rs'
+same-views : {es es' : List Entry} {p p' : List ℕ} {n n' : ℕ} {rs rs' : List (Option Receipt)} → es ≡ es' → p ≡ p' → n ≡ n' → rs ≡ rs'
     → viewing es p n rs ≡ viewing es' p' n' rs'
 same-views e f g h = cc
 
@@ -49,7 +49,7 @@ abbrev pub with_entry : ℕ → View → ℕ → Entry → View
 with_entry A vw s e = viewing (set vw.sessions s (shown A e)) vw.own.part vw.own.last (set vw.own.receipts s None)
 
 -- what is outstanding for A once sessions with these entries are given these receipts: its receivers alone take theirs
-abbrev pub given_to : ℕ → List Entry → List Receipt → List Receipt
+abbrev pub given_to : ℕ → List Entry → List (Option Receipt) → List (Option Receipt)
 given_to A es rs = map (receipt_for A) (granting A (map session_with es) rs)
 
 -- a view once what is A's own is replaced
@@ -74,17 +74,17 @@ unbound-none A ses h = if-false (receiver_of A ses.entry) ses.receipt None (unbo
 receiver-shown : (A : ℕ) (e : Entry) → receiver_of A e ≡ receiver_of A (shown A e)
 receiver-shown A e = if-cases (λ (d : Entry). receiver_of A e ≡ receiver_of A d) (bound_to A e) e Closed (λ h. refl) (unbound-deaf A e)
 
-given-one : (A : ℕ) (ses : Session) (r : Receipt) → receipt_for A (granted_to A ses r) ≡ receipt_for A (granted_to A (session_with (shown_of A ses)) r)
+given-one : (A : ℕ) (ses : Session) (r : Option Receipt) → receipt_for A (granted_to A ses r) ≡ receipt_for A (granted_to A (session_with (shown_of A ses)) r)
 given-one A ses r =
     given-receipt A ses r
     ∙ ap (λ t. when t then r else None) (receiver-shown A ses.entry)
     ∙ sym (given-receipt A (session_with (shown_of A ses)) r)
 
-given-shown : (A : ℕ) (xs : List Session) (rs : List Receipt) → map (receipt_for A) (granting A xs rs) ≡ given_to A (map (shown_of A) xs) rs
+given-shown : (A : ℕ) (xs : List Session) (rs : List (Option Receipt)) → map (receipt_for A) (granting A xs rs) ≡ given_to A (map (shown_of A) xs) rs
 unfolding granting
 given-shown A [] rs = refl
-given-shown A (x ∷ xs) [] = ap₂ {C = List Receipt} (λ q qs. q ∷ qs) (given-one A x None) (given-shown A xs [])
-given-shown A (x ∷ xs) (r ∷ rs) = ap₂ {C = List Receipt} (λ q qs. q ∷ qs) (given-one A x r) (given-shown A xs rs)
+given-shown A (x ∷ xs) [] = ap₂ {C = List (Option Receipt)} (λ q qs. q ∷ qs) (given-one A x None) (given-shown A xs [])
+given-shown A (x ∷ xs) (r ∷ rs) = ap₂ {C = List (Option Receipt)} (λ q qs. q ∷ qs) (given-one A x r) (given-shown A xs rs)
 
 -- ---- two worlds that are the same to A: a session is A's in both or in neither, and one of A's has the same entry in both
 

@@ -1,7 +1,7 @@
 -- The platform, in general: sixteen sessions and eight accounts over one table, driven by steps. What a particular centre does is given by a
 -- `Machine`; by the types of its parts, an account's function sees of table, last ids and receipts that account's own alone, and an open session's
 -- function sees none of them.
-use Rattle.std.specs.Prelude.{ℕ, ◌*◌, Bool, List, ltb, leb, eqb, length, replicate}
+use Rattle.std.specs.Prelude.{ℕ, ◌*◌, Bool, List, ltb, leb, eqb, length, replicate, Option}
 use Rattle.octets.specs.Choice.{when◌then◌else◌}
 use Rattle.octets.specs.Stretch.{part, patch}
 pub use Rattle.records.specs.Layout.{part_size, table_size}
@@ -32,9 +32,9 @@ fresh = record { state = S.fresh; table = replicate table_size 0 }
 pub record Own : Type 0 where
   pub part : List ℕ
   pub last : ℕ
-  pub receipts : List Receipt
+  pub receipts : List (Option Receipt)
 
-abbrev pub owning : List ℕ → ℕ → List Receipt → Own
+abbrev pub owning : List ℕ → ℕ → List (Option Receipt) → Own
 owning p n rs = record { part = p; last = n; receipts = rs }
 
 -- what is account a's own in a world

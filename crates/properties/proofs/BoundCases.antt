@@ -7,6 +7,7 @@ use Prim.Native.Nat.{ℕ}
 use native.Mathlib.Omega.{arith}
 use lib.ListN.{length, take, drop, get_or, set}
 use lib.Seq.{set-get_or}
+use Rattle.std.specs.Prelude.{Option, None}
 use Rattle.octets.proofs.StretchLaws.{if-cases}
 use Rattle.wire.specs.Command.{Command, BindReceiver, BindTransmitter, QuerySm, SubmitSm, Unbind, ReplaceSm, CancelSm, EnquireLink, Response, Unknown, command_of}
 use Rattle.wire.specs.Frame.{frame_of, header_of}
@@ -16,7 +17,6 @@ use Rattle.wire.specs.declared.frame.Frame.TheVariants.{More, Malformed, Whole}
 use Rattle.answers.specs.Answer.{nak_length, Octets, Answer, taken, refused_octets, replied_to, silent}
 use Rattle.store.specs.Account.{account_ok}
 use Rattle.session.specs.declared.Receipt.{Receipt}
-use Rattle.session.specs.declared.Receipt.TheVariants.{None}
 use Rattle.receipts.specs.Settle.{settled}
 use Rattle.isolation.specs.Platform.{Own, owning, Effect}
 use Rattle.bound.specs.Bound.{Stored, storing, Turn, replying, keeping, Hand, bound_command, settled_by, bound_frame, on_bound}
@@ -42,7 +42,7 @@ module _ (book : List ℕ) (s : ℕ) (x : Octets) (own : Own) where
   abbrev pub before : Stored
   before = storing own.part own.last
 
-  abbrev pub receipt : Receipt
+  abbrev pub receipt : Option Receipt
   receipt = get_or own.receipts s None
 
   pub record Answers (P : Effect Own Answer → Type 0) (Q : Turn → Type 0) : Type 0 where

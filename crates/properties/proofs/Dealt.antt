@@ -7,6 +7,7 @@ use mathlib.Core.List.{List}
 use lib.ListN.{length, take, get_or, set}
 use lib.Seq.{set-get_or}
 use borrow.Author.Tests.{eqb-true}
+use Rattle.std.specs.Prelude.{Option, None}
 use Rattle.octets.proofs.StretchLaws.{if-cases, part_length}
 use Rattle.forms.specs.Time.{sent_time}
 use Rattle.wire.specs.Frame.{header_of}
@@ -16,11 +17,10 @@ use Rattle.records.specs.Book.{book_record}
 use Rattle.store.specs.Places.{record_at}
 use Rattle.store.specs.Search.{waiting, owed}
 use Rattle.changes.specs.Change.{unmarked}
-use Rattle.session.specs.State.{account_count, entry_at, receiver_of, receipts_of, held_ids}
+use Rattle.session.specs.State.{account_count, entry_at, receiver_of, receipts_of, held_ids, outstanding}
 use Rattle.session.specs.declared.Entry.{Entry}
 use Rattle.session.specs.declared.Entry.TheVariants.{Closed, Open, Transmitter, Receiver, Ended}
 use Rattle.session.specs.declared.Receipt.{Receipt}
-use Rattle.session.specs.declared.Receipt.TheVariants.{None, Outstanding}
 use Rattle.session.proofs.ReceiptLaws.{receipts-at}
 use Rattle.receipts.specs.Settle.{Settled}
 use Rattle.isolation.specs.Platform.{part_size, table_size, World, Own, own_of, part_of, Step, on, on_session, of_account, Effect, ask}
@@ -59,13 +59,13 @@ stands_same part = record { marks = λ _ _ _. refl; arises = λ k _ w _. waiting
 
 -- account a's part and its receipts after a step: no mark is taken and no receipt is added; a receipt is acknowledged, and is outstanding no more; or
 -- one is sent that was owed and outstanding nowhere
-pub data Dealt (w : World) (a : ℕ) : Step Call Question → List ℕ → List Receipt → Type 0 where
-  keeps : {st : Step Call Question} {part : List ℕ} {rs : List Receipt} → Stands (part_of a w.table) part → Fewer rs (receipts_of w.state a)
+pub data Dealt (w : World) (a : ℕ) : Step Call Question → List ℕ → List (Option Receipt) → Type 0 where
+  keeps : {st : Step Call Question} {part : List ℕ} {rs : List (Option Receipt)} → Stands (part_of a w.table) part → Fewer rs (receipts_of w.state a)
       → Dealt w a st part rs
-  acknowledges : {s : ℕ} {x : Octets} {part : List ℕ} {rs : List Receipt} (id : ℕ) → Acknowledges w a id s x → StandsBut id (part_of a w.table) part
+  acknowledges : {s : ℕ} {x : Octets} {part : List ℕ} {rs : List (Option Receipt)} (id : ℕ) → Acknowledges w a id s x → StandsBut id (part_of a w.table) part
       → Fewer rs (set (receipts_of w.state a) s None) → Dealt w a (on s (taking x)) part rs
-  sends : {s : ℕ} {y : Delivery} {part : List ℕ} {rs : List Receipt} (k : ℕ) → k < places → owed (held_ids w.state a) (record_in w a k) ≡ true
-      → Stands (part_of a w.table) part → Fewer rs (set (receipts_of w.state a) s (Outstanding (id_of (record_in w a k)) y.sequence))
+  sends : {s : ℕ} {y : Delivery} {part : List ℕ} {rs : List (Option Receipt)} (k : ℕ) → k < places → owed (held_ids w.state a) (record_in w a k) ≡ true
+      → Stands (part_of a w.table) part → Fewer rs (set (receipts_of w.state a) s (outstanding (id_of (record_in w a k)) y.sequence))
       → Dealt w a (on s (delivering y)) part rs
 
 pub receiver-is : (a : ℕ) (e : Entry) → receiver_of a e ≡ true → e ≡ Receiver a
@@ -80,13 +80,13 @@ module _ (w : World) (a : ℕ) where
   same = keeps (stands_same _) (λ _ _ _ e. e)
 
   -- with fewer receipts still
-  pub dealt-fewer : (st : Step Call Question) (part : List ℕ) (rs less : List Receipt) → Fewer less rs → Dealt w a st part rs → Dealt w a st part less
+  pub dealt-fewer : (st : Step Call Question) (part : List ℕ) (rs less : List (Option Receipt)) → Fewer less rs → Dealt w a st part rs → Dealt w a st part less
   dealt-fewer st part rs less f (keeps stands g) = keeps stands (λ t id sequence e. g t id sequence (f t id sequence e))
   dealt-fewer st part rs less f (acknowledges id ack stands g) = acknowledges id ack stands (λ t i sequence e. g t i sequence (f t i sequence e))
   dealt-fewer st part rs less f (sends k inside fit stands g) = sends k inside fit stands (λ t id sequence e. g t id sequence (f t id sequence e))
 
   -- in each case
-  pub dealt-arises : (st : Step Call Question) (part : List ℕ) (rs : List Receipt) → Dealt w a st part rs → Arises (part_of a w.table) part
+  pub dealt-arises : (st : Step Call Question) (part : List ℕ) (rs : List (Option Receipt)) → Dealt w a st part rs → Arises (part_of a w.table) part
   dealt-arises st part rs (keeps stands fewer) = stands.arises
   dealt-arises st part rs (acknowledges id ack stands fewer) = stands.arises
   dealt-arises st part rs (sends k inside fit stands fewer) = stands.arises
@@ -94,7 +94,7 @@ module _ (w : World) (a : ℕ) where
   -- a receipt of the account's is outstanding on a receiver of the account's
   outstanding-receiver : (s id sequence : ℕ) → OutstandingOn w a s id sequence → entry_at w.state s ≡ Receiver a
   outstanding-receiver s id sequence e =
-      if-cases (λ (r : Receipt). r ≡ Outstanding id sequence → entry_at w.state s ≡ Receiver a) (receiver_of a (entry_at w.state s)) _ None
+      if-cases (λ (r : Option Receipt). r ≡ outstanding id sequence → entry_at w.state s ≡ Receiver a) (receiver_of a (entry_at w.state s)) _ None
       (λ t _. receiver-is a (entry_at w.state s) t)
       (λ _ none. absurd (none≢outstanding id sequence none))
       (sym (receipts-at w.state a s) ∙ e)

@@ -6,15 +6,15 @@ use mathlib.Core.List.{List, [], ◌∷◌, map}
 use lib.Dec.{eqb}
 use lib.ListN.{get_or, set, replicate}
 use borrow.Author.Tests.{eqb-false, not-true}
+use Rattle.std.specs.Prelude.{Option, None}
 use Rattle.octets.specs.Choice.{when◌then◌else◌}
 use Rattle.octets.specs.Stretch.{among}
 use Rattle.octets.proofs.StretchLaws.{and_left, and_right, or_left, or_right}
 use Rattle.records.specs.Layout.{places, id_of}
 use Rattle.records.specs.Record.{marked}
 use Rattle.store.specs.Search.{owed}
-use Rattle.session.specs.State.{session_count, account_count, closed_session, receipt_for, receipts_of, held_id, held_ids}
+use Rattle.session.specs.State.{session_count, account_count, closed_session, receipt_for, receipts_of, held_id, held_ids, outstanding}
 use Rattle.session.specs.declared.Receipt.{Receipt}
-use Rattle.session.specs.declared.Receipt.TheVariants.{None, Outstanding}
 use Rattle.isolation.specs.Platform.{World, fresh, part_of, Step, on, step}
 use Rattle.isolation.specs.History.{after}
 use Rattle.answers.specs.Answer.{Call, taking, delivering, Question}
@@ -25,7 +25,7 @@ use Rattle.properties.proofs.Dealt.{Stands, StandsBut, Dealt, keeps, acknowledge
 use Rattle.properties.proofs.MarksKept.{dealt}
 
 -- an id that is none of those outstanding is outstanding nowhere
-not-among : (id : ℕ) (rs : List Receipt) → among id (map held_id rs) ≡ false → (t sequence : ℕ) → get_or rs t None ≡ Outstanding id sequence → ⊥
+not-among : (id : ℕ) (rs : List (Option Receipt)) → among id (map held_id rs) ≡ false → (t sequence : ℕ) → get_or rs t None ≡ outstanding id sequence → ⊥
 not-among id [] h t sequence e = none≢outstanding id sequence e
 not-among id (r ∷ rs) h zero sequence e = eqb-false id (held_id r) (or_left (eqb id (held_id r)) (among id (map held_id rs)) h) (sym (ap held_id e))
 not-among id (r ∷ rs) h (suc t) sequence e = not-among id rs (or_right (eqb id (held_id r)) (among id (map held_id rs)) h) t sequence e
@@ -44,10 +44,10 @@ module _ (a : ℕ) where
     stands-owed : Stands (part_of a w.table) (part_of a v.table) → (id : ℕ) → OwedFor w a id → OwedFor v a id
     stands-owed kept id o = still-owed id o (kept.marks o.place o.below o.owed)
 
-    abbrev before : List Receipt
+    abbrev before : List (Option Receipt)
     before = receipts_of w.state a
 
-    abbrev later : List Receipt
+    abbrev later : List (Option Receipt)
     later = receipts_of v.state a
 
     once-fewer : Fewer later before → (s t id sequence other : ℕ) → OutstandingOn v a s id sequence → OutstandingOn v a t id other → s ≡ t
@@ -88,19 +88,19 @@ module _ (a : ℕ) where
       nowhere : (t i q : ℕ) → id ≡ i → OutstandingOn w a t i q → ⊥
       nowhere t i q same e = not-among id before (not-true held (and_right (marked (record_in w a k)) (not held) fit)) t q (rw (sym same) at e)
 
-      sends-sound : Stands (part_of a w.table) (part_of a v.table) → Fewer later (set before s (Outstanding id sequence)) → Sound v
+      sends-sound : Stands (part_of a w.table) (part_of a v.table) → Fewer later (set before s (outstanding id sequence)) → Sound v
       sends-sound kept fewer =
           record {
             owed = λ t i q e.
-                set_cases i q before s (Outstanding id sequence) t (fewer t i q e)
+                set_cases i q before s (outstanding id sequence) t (fewer t i q e)
                 (λ _ sent. stands-owed kept i (record { place = k; below = inside; owed = is-owed; named = ap held_id sent }))
                 (λ _ was. stands-owed kept i (sound.owed t i q was));
             once = λ t u i q r e f.
-                set_cases i q before s (Outstanding id sequence) t (fewer t i q e)
-                (λ here sent. set_cases i r before s (Outstanding id sequence) u (fewer u i r f)
+                set_cases i q before s (outstanding id sequence) t (fewer t i q e)
+                (λ here sent. set_cases i r before s (outstanding id sequence) u (fewer u i r f)
                 (λ there _. here ∙ sym there)
                 (λ _ was. absurd (nowhere u i r (ap held_id sent) was)))
-                (λ _ was. set_cases i r before s (Outstanding id sequence) u (fewer u i r f)
+                (λ _ was. set_cases i r before s (outstanding id sequence) u (fewer u i r f)
                 (λ _ sent. absurd (nowhere t i q (ap held_id sent) was))
                 (λ _ also. sound.once t u i q r was also));
           }
@@ -113,7 +113,7 @@ module _ (a : ℕ) where
   -- ---- histories
 
   -- on closed sessions nothing is outstanding
-  closed_none : (n s id sequence : ℕ) → get_or (map (receipt_for a) (replicate n closed_session)) s None ≡ Outstanding id sequence → ⊥
+  closed_none : (n s id sequence : ℕ) → get_or (map (receipt_for a) (replicate n closed_session)) s None ≡ outstanding id sequence → ⊥
   unfolding when◌then◌else◌
   closed_none zero s id sequence e = none≢outstanding id sequence e
   closed_none (suc n) zero id sequence e = none≢outstanding id sequence e

@@ -6,12 +6,12 @@ use mathlib.Core.Bool.{Bool, true, false≢true}
 use mathlib.Core.List.{List}
 use lib.ListN.{get_or}
 use borrow.Author.Tests.{eqb-true}
+use Rattle.std.specs.Prelude.{None}
 use Rattle.octets.proofs.StretchLaws.{if-cases}
 use Rattle.store.specs.Account.{account_ok}
 use Rattle.session.specs.State.{account_count, entry_at, receiver_of, receipts_of, is_receiver}
 use Rattle.session.specs.declared.Entry.{Entry}
 use Rattle.session.specs.declared.Entry.TheVariants.{Closed, Open, Transmitter, Receiver, Ended}
-use Rattle.session.specs.declared.Receipt.TheVariants.{None}
 use Rattle.isolation.specs.Platform.{World, Own, Step, opens, closes, on, of, Effect, Ran, step}
 use Rattle.isolation.specs.History.{bound_to}
 use Rattle.answers.specs.Answer.{Octets, Delivery, Call, taking, delivering, Question, outcome, pick, Answer, number_of}

@@ -124,11 +124,11 @@ one-offers r r' space space' e =
     let same : offering r.number r.written r.receipt ≡ offering r'.number r'.written r'.receipt = rw (o.number, o.written, receipt) in
     (same, o.space)
   where
-    offering : ℕ → ℕ → Receipt → Offer
+    offering : ℕ → ℕ → Option Receipt → Offer
     offering n w receipt = record { number = n; written = w; receipt = receipt }
 
 pub one-handles : TellsOfThree handles
 one-handles r r' part part' space space' e =
     let o = one-acts r.acted r'.acted part part' space space' (ap (λ (f : Effect Hand Answer). record { answer = f.answer; own = f.own.stored; ends = f.ends }) e) in
     let receipt : r.receipt ≡ r'.receipt = ap (λ (f : Effect Hand Answer). f.own.receipt) e in
-    (ap₂ {C = Handled} (λ (a : Acted) (q : Receipt). record { acted = a; receipt = q }) o.0 receipt, o.1, o.2)
+    (ap₂ {C = Handled} (λ (a : Acted) (q : Option Receipt). record { acted = a; receipt = q }) o.0 receipt, o.1, o.2)

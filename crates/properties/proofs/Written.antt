@@ -6,6 +6,7 @@ use mathlib.Core.Bool.{true, false, not, false≢true, true≢false}
 use mathlib.Core.List.{List}
 use lib.ListN.{get_or}
 use borrow.Author.Tests.{eqb-true, eq-eqb}
+use Rattle.std.specs.Prelude.{None}
 use Rattle.octets.specs.Stretch.{among}
 use Rattle.octets.proofs.StretchLaws.{and_both}
 use Rattle.records.specs.Layout.{places, id_of}
@@ -14,7 +15,6 @@ use Rattle.records.specs.Book.{book_record}
 use Rattle.store.specs.Search.{owed}
 use Rattle.session.specs.State.{account_count, entry_at, receiver_of, receipts_of, held_ids}
 use Rattle.session.specs.declared.Entry.TheVariants.{Receiver}
-use Rattle.session.specs.declared.Receipt.TheVariants.{None}
 use Rattle.isolation.specs.Platform.{World, Own, own_of, part_of, on, on_session, Effect, Ran, ask, step}
 use Rattle.isolation.specs.History.{bound_to}
 use Rattle.answers.specs.Answer.{Delivery, delivering, Answer, number_of}

@@ -1,6 +1,6 @@
 -- No receipt is lost. A registered message that ends is marked, and so owed a receipt; its record stands as it is until a step acknowledges it; what is
 -- owed and outstanding nowhere is written on request; and from a fresh platform, what is outstanding is owed, and on one session only.
-use Rattle.std.specs.Prelude.{ℕ, ◌<◌, ◌≡◌, true, false, List, get_or, take}
+use Rattle.std.specs.Prelude.{ℕ, ◌<◌, ◌≡◌, true, false, List, get_or, take, None}
 use Rattle.wire.specs.Command.{response_to}
 use Rattle.wire.specs.Frame.{frame_of, header_of}
 use Rattle.wire.specs.declared.frame.Frame.TheVariants.{Whole}
@@ -11,9 +11,8 @@ use Rattle.records.specs.Record.{marked}
 use Rattle.store.specs.Places.{record_at}
 use Rattle.store.specs.Search.{waiting}
 use Rattle.changes.specs.Change.{unmarked}
-use Rattle.session.specs.State.{account_count, entry_at, receiver_of, receipts_of, held_ids}
+use Rattle.session.specs.State.{account_count, entry_at, receiver_of, receipts_of, held_ids, outstanding}
 use Rattle.session.specs.declared.Entry.TheVariants.{Receiver}
-use Rattle.session.specs.declared.Receipt.TheVariants.{None, Outstanding}
 use Rattle.receipts.specs.DeliverSm.{deliver_id}
 use Rattle.isolation.specs.Platform.{World, part_of, fresh, Step, on}
 use Rattle.isolation.specs.History.{after}
@@ -33,7 +32,7 @@ Owed w a k = marked (record_in w a k) ≡ true
 
 -- account a has a receipt for this id, with this sequence number, outstanding on session s
 abbrev pub OutstandingOn : World → ℕ → ℕ → ℕ → ℕ → Type 0
-OutstandingOn w a s id sequence = get_or (receipts_of w.state a) s None ≡ Outstanding id sequence
+OutstandingOn w a s id sequence = get_or (receipts_of w.state a) s None ≡ outstanding id sequence
 
 -- octets on a receiver of account a: a deliver_sm_resp with status 0 and the sequence number of its outstanding receipt, which is for this id
 pub record Acknowledges (w : World) (a id s : ℕ) (x : Octets) : Type 0 where

@@ -3,7 +3,7 @@
 --
 -- Here is which numbers there are, that a call with a wrong session, buffer, time stamp or stored record doesn't get 0, and what refusals leave
 -- as it was: a call refused by number, all that it was lent; a request refused over the protocol, every stored message.
-use Rattle.std.specs.Prelude.{ℕ, ◌≤◌, ◌<◌, ◌≡◌, Bool, true, false, List, [], ◌∷◌, length, get_or}
+use Rattle.std.specs.Prelude.{ℕ, ◌≤◌, ◌<◌, ◌≡◌, Bool, true, false, List, [], ◌∷◌, length, get_or, None}
 use Rattle.octets.specs.Stretch.{part, among}
 use Rattle.octets.specs.Number.{number}
 use Rattle.forms.specs.Time.{sent_time}
@@ -12,7 +12,6 @@ use Rattle.records.specs.Book.{book_size, book_record}
 use Rattle.store.specs.Account.{account_ok}
 use Rattle.session.specs.State.{session_count, account_count, entry_at, last_at, is_receiver, receipts_of}
 use Rattle.session.specs.declared.Entry.{Entry}
-use Rattle.session.specs.declared.Receipt.TheVariants.{None}
 use Rattle.session.specs.declared.Entry.TheVariants.{Closed, Open, Transmitter, Receiver, Ended}
 use Rattle.isolation.specs.History.{bound_to}
 use Rattle.isolation.specs.Platform.{table_size, part_of, World, Step, opens, closes, on, of, unchanged}

@@ -3,7 +3,7 @@ ghost use Rattle.std.specs.Prelude.{◌≡◌, ◌≤◌, length};
 ghost use Rattle.records.specs.Layout.{part_size};
 ghost use Rattle.records.specs.Book.{book_record_size};
 ghost use Rattle.receipts.specs.DeliverSm.{longest_delivery};
-ghost use Rattle.receipts.specs.Offer.{is_outstanding, offered, offers};
+ghost use Rattle.receipts.specs.Offer.{offered, offers};
 
 use crate::deliver_sm;
 use session::{Receipt, number};
@@ -14,25 +14,16 @@ use store::places::Found;
 pub struct Offer {
     pub number: u8,
     pub written: usize,
-    pub receipt: Receipt,
+    pub receipt: Option<Receipt>,
 }
 
-fn refuse(number: u8, receipt: Receipt) -> Offer
+fn refuse(number: u8, receipt: Option<Receipt>) -> Offer
     ensures { result ≡ record { number = number; written = 0; receipt = receipt } }
 {
     Offer {
         number,
         written: 0,
         receipt,
-    }
-}
-
-fn is_outstanding(receipt: Receipt) -> bool
-    ensures { result ≡ is_outstanding receipt }
-{
-    match receipt {
-        Receipt::None => false,
-        Receipt::Outstanding(_, _) => true,
     }
 }
 
@@ -43,7 +34,7 @@ pub fn offer_receipt(
     last: u32,
     part: &[u8],
     ids: &[u32],
-    receipt: Receipt,
+    receipt: Option<Receipt>,
     sequence: u32,
     space: &mut [u8],
 ) -> Offer
@@ -53,7 +44,7 @@ pub fn offer_receipt(
     if !store::account::is_account_ok(book, last, part) {
         return refuse(number::ACCOUNT_ILL_FORMED, receipt);
     }
-    if !receiver | is_outstanding(receipt) {
+    if !receiver | receipt.is_some() {
         return refuse(number::NO_RECEIVER, receipt);
     }
     let found = store::search::find_owed(part, ids);
@@ -66,6 +57,6 @@ pub fn offer_receipt(
     Offer {
         number: number::DONE,
         written,
-        receipt: Receipt::Outstanding(id, sequence),
+        receipt: Some(Receipt { id, sequence }),
     }
 }

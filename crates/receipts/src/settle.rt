@@ -21,18 +21,18 @@ fn acknowledge(part: &mut [u8], id: u32)
 }
 
 // The session's receipt afterwards.
-pub fn settle(part: &mut [u8], header: Header, receipt: Receipt) -> Receipt
+pub fn settle(part: &mut [u8], header: Header, receipt: Option<Receipt>) -> Option<Receipt>
     requires { length part.old ≡ part_size }
     ensures { settling result part.new ≡ settled header receipt part.old }
 {
-    let Receipt::Outstanding(id, sequence) = receipt else {
+    let Some(outstanding) = receipt else {
         return receipt;
     };
-    if (header.command == DELIVER_SM_RESPONSE) & (header.sequence == sequence) {
+    if (header.command == DELIVER_SM_RESPONSE) & (header.sequence == outstanding.sequence) {
         if header.status == 0 {
-            acknowledge(part, id);
+            acknowledge(part, outstanding.id);
         }
-        Receipt::None
+        None
     } else {
         receipt
     }

@@ -1,12 +1,11 @@
 -- The state and what opening, closing, binding and unbinding make of it (document 01, "What the centre does" and "Numbers a caller gets"), and the
 -- receipts that are outstanding (document 02, 1).
-use Rattle.std.specs.Prelude.{ℕ, Bool, true, false, List, [], ◌∷◌, map, get_or, set, replicate, leb, eqb}
+use Rattle.std.specs.Prelude.{ℕ, Bool, true, false, List, [], ◌∷◌, map, get_or, set, replicate, leb, eqb, Option, Some, None}
 use Rattle.octets.specs.Choice.{when◌then◌else◌}
 pub use Rattle.records.specs.Layout.{account_count}
 use Rattle.session.specs.declared.Entry.{Entry}
 use Rattle.session.specs.declared.Entry.TheVariants.{Closed, Open, Transmitter, Receiver, Ended}
 use Rattle.session.specs.declared.Receipt.{Receipt}
-use Rattle.session.specs.declared.Receipt.TheVariants.{None, Outstanding}
 use Rattle.session.specs.declared.Session.{Session}
 use Rattle.session.specs.declared.State.{State}
 use Rattle.session.specs.declared.Moved.{Moved}
@@ -56,35 +55,39 @@ receiver_of a (Transmitter b) = false
 receiver_of a (Receiver b) = eqb b a
 receiver_of a Ended = false
 
-abbrev pub receipt_for : ℕ → Session → Receipt
+abbrev pub receipt_for : ℕ → Session → Option Receipt
 receipt_for a ses = when receiver_of a ses.entry then ses.receipt else None
 
+-- the receipt with this id and this sequence number
+abbrev pub outstanding : ℕ → ℕ → Option Receipt
+outstanding id sequence = Some (record { id = id; sequence = sequence })
+
 -- the receipts of account a, session by session
-abbrev pub receipts_of : State → ℕ → List Receipt
+abbrev pub receipts_of : State → ℕ → List (Option Receipt)
 receipts_of st a = map (receipt_for a) st.sessions
 
 -- the id that is outstanding, or 0, which no message has; its sequence number, or 0
-abbrev pub held_id : Receipt → ℕ
+abbrev pub held_id : Option Receipt → ℕ
 held_id None = 0
-held_id (Outstanding id sequence) = id
+held_id (Some r) = r.id
 
-abbrev pub held_sequence : Receipt → ℕ
+abbrev pub held_sequence : Option Receipt → ℕ
 held_sequence None = 0
-held_sequence (Outstanding id sequence) = sequence
+held_sequence (Some r) = r.sequence
 
 abbrev pub held_ids : State → ℕ → List ℕ
 held_ids st a = map held_id (receipts_of st a)
 
 -- account a's receivers with these receipts, session by session; every other session as it was
-abbrev pub granted_to : ℕ → Session → Receipt → Session
+abbrev pub granted_to : ℕ → Session → Option Receipt → Session
 granted_to a ses r = when receiver_of a ses.entry then record { entry = ses.entry; receipt = r } else ses
 
-unfoldable pub granting : ℕ → List Session → List Receipt → List Session
+unfoldable pub granting : ℕ → List Session → List (Option Receipt) → List Session
 granting a [] rs = []
 granting a (ses ∷ sessions) [] = granted_to a ses None ∷ granting a sessions []
 granting a (ses ∷ sessions) (r ∷ rs) = granted_to a ses r ∷ granting a sessions rs
 
-abbrev pub granted : State → ℕ → List Receipt → State
+abbrev pub granted : State → ℕ → List (Option Receipt) → State
 granted st a rs = record { sessions = granting a st.sessions rs; lasts = st.lasts }
 
 -- ---- opening and closing

@@ -18,17 +18,18 @@ pub enum Entry {
     Ended,
 }
 
-// What the session's peer has not answered yet: nothing, or a receipt, with its message's id and its sequence number. Only a receiver's counts.
+// A receipt that the session's peer has not answered yet: its message's id and its sequence number.
 #[derive(Clone, Copy)]
-pub enum Receipt {
-    None,
-    Outstanding(u32, u32),
+pub struct Receipt {
+    pub id: u32,
+    pub sequence: u32,
 }
 
+// Only a receiver's receipt counts.
 #[derive(Clone, Copy)]
 pub struct Session {
     pub entry: Entry,
-    pub receipt: Receipt,
+    pub receipt: Option<Receipt>,
 }
 
 #[derive(Clone, Copy)]
@@ -46,49 +47,34 @@ pub struct Moved {
 
 pub const SESSIONS: usize = 16;
 
-impl Receipt {
-    // The id, or 0.
-    pub fn id(self) -> u32
-        ensures { result ≡ held_id self }
-    {
-        match self {
-            Receipt::None => 0,
-            Receipt::Outstanding(id, _) => id,
-        }
-    }
+// The id that is outstanding, or 0.
+pub fn held_id(receipt: Option<Receipt>) -> u32
+    ensures { result ≡ held_id receipt }
+{
+    receipt.map_or(0, |r| r.id)
+}
 
-    // The sequence number, or 0.
-    pub fn sequence(self) -> u32
-        ensures { result ≡ held_sequence self }
-    {
-        match self {
-            Receipt::None => 0,
-            Receipt::Outstanding(_, sequence) => sequence,
-        }
-    }
+// Its sequence number, or 0.
+pub fn held_sequence(receipt: Option<Receipt>) -> u32
+    ensures { result ≡ held_sequence receipt }
+{
+    receipt.map_or(0, |r| r.sequence)
 }
 
 fn is_receiver_of(account: usize, entry: Entry) -> bool
     ensures { result ≡ receiver_of account entry }
 {
-    match entry {
-        Entry::Closed => false,
-        Entry::Open => false,
-        Entry::Transmitter(_) => false,
-        Entry::Receiver(a) => a as usize == account,
-        Entry::Ended => false,
-    }
+    matches!(entry, Entry::Receiver(a) if a as usize == account)
 }
 
 // What is outstanding on a session for the account.
-pub fn receipt_for(account: usize, x: Session) -> Receipt
+pub fn receipt_for(account: usize, x: Session) -> Option<Receipt>
     ensures { result ≡ receipt_for account x }
 {
-    let entry = x.entry;
-    if is_receiver_of(account, entry) {
+    if is_receiver_of(account, x.entry) {
         x.receipt
     } else {
-        Receipt::None
+        None
     }
 }
 
@@ -99,7 +85,7 @@ impl State {
     {
         let sessions = [Session {
             entry: Entry::Closed,
-            receipt: Receipt::None,
+            receipt: None,
         }; SESSIONS];
         State {
             sessions,
@@ -122,21 +108,25 @@ impl State {
     {
         self.sessions[session] = Session {
             entry,
-            receipt: Receipt::None,
+            receipt: None,
         };
         self
     }
 
     // An account's last id, and the receipt of one of its sessions: only a receiver of the account is given one.
-    pub fn grant(mut self, session: usize, account: usize, receipt: Receipt, last: u32) -> State
+    pub fn grant(
+        mut self,
+        session: usize,
+        account: usize,
+        receipt: Option<Receipt>,
+        last: u32,
+    ) -> State
         requires { (session < session_count) × (account < account_count) }
         ensures { result ≡ issued (granted self account (set (receipts_of self account) session receipt)) account last }
     {
         self.lasts[account] = last;
-        let x = self.sessions[session];
-        let entry = x.entry;
-        if is_receiver_of(account, entry) {
-            self.sessions[session] = Session { entry, receipt };
+        if is_receiver_of(account, self.sessions[session].entry) {
+            self.sessions[session].receipt = receipt;
         }
         self
     }
@@ -145,14 +135,7 @@ impl State {
     pub fn held(self, account: usize) -> [u32; SESSIONS]
         ensures { result ≡ held_ids self account }
     {
-        let mut ids = [0; SESSIONS];
-        let mut i = 0;
-        while i < SESSIONS {
-            let receipt = receipt_for(account, self.sessions[i]);
-            ids[i] = receipt.id();
-            i += 1;
-        }
-        ids
+        self.sessions.map(|x| held_id(receipt_for(account, x)))
     }
 
     pub fn unbind(self, session: usize) -> State
@@ -171,32 +154,16 @@ impl State {
                 state: self,
             };
         }
-        let x = self.sessions[session];
-        let entry = x.entry;
-        match entry {
-            Entry::Closed => {
-                let state = self.bind(session, Entry::Open);
-                Moved {
-                    number: number::DONE,
-                    state,
-                }
-            }
-            Entry::Open => Moved {
+        let Entry::Closed = self.sessions[session].entry else {
+            return Moved {
                 number: number::UNFIT_SESSION,
                 state: self,
-            },
-            Entry::Transmitter(_) => Moved {
-                number: number::UNFIT_SESSION,
-                state: self,
-            },
-            Entry::Receiver(_) => Moved {
-                number: number::UNFIT_SESSION,
-                state: self,
-            },
-            Entry::Ended => Moved {
-                number: number::UNFIT_SESSION,
-                state: self,
-            },
+            };
+        };
+        let state = self.bind(session, Entry::Open);
+        Moved {
+            number: number::DONE,
+            state,
         }
     }
 

@@ -10,6 +10,7 @@ use native.Mathlib.Omega.{arith}
 use lib.ListN.{length}
 use lib.Dec.{eqb}
 use borrow.Author.Tests.{eqb-true, eqb-false, ne_eqb, not-true}
+use Rattle.std.specs.Prelude.{Option}
 use Rattle.octets.proofs.StretchLaws.{and_left, and_right, if-cases}
 use Rattle.forms.specs.Class.{within}
 use Rattle.forms.specs.Time.{sent_time}
@@ -183,7 +184,7 @@ module _ (book part : List ℕ) (last : ℕ) (whole : length part ≡ part_size)
       let g = record-good last r (good.each k h) (eqb-false (state_of r) 0 (not-true (is_empty r) given)) in
       changed-ok k h unmarked (unmarked-length r) g (unmarked-good r (size k h) last g) (unmarked-id r)
 
-  pub settled-ok : (h : Header) (receipt : Receipt) → account_ok book last (settled h receipt part).part ≡ true
+  pub settled-ok : (h : Header) (receipt : Option Receipt) → account_ok book last (settled h receipt part).part ≡ true
   settled-ok h receipt = settled-cases part (λ (r : Settled). Ok last r.part) h receipt ok ok (λ id _ _ _. acknowledged-ok id)
 
   pub submitted-ok : length book ≡ book_record_size → last ≤ 0xFFFFFFFF → (body : List ℕ)

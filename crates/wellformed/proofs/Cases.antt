@@ -7,6 +7,7 @@ use Prim.Native.Nat.{ℕ}
 use native.Mathlib.Omega.{arith}
 use lib.Dec.{eqb}
 use borrow.Author.Tests.{eqb-true, eqb-false, not-true, not-false}
+use Rattle.std.specs.Prelude.{Option, Some, None}
 use Rattle.octets.specs.Choice.{when◌then◌else◌}
 use Rattle.octets.proofs.StretchLaws.{and_left, and_right, if-cases}
 use Rattle.wire.specs.Command.{response_to}
@@ -20,8 +21,8 @@ use Rattle.store.specs.Places.{record_at, on_places, on_found}
 use Rattle.store.specs.Search.{waiting, place_of, pair_place, new_place}
 use Rattle.store.specs.declared.places.Found.{Found}
 use Rattle.store.specs.declared.places.Found.TheVariants.{At, Nowhere}
+use Rattle.session.specs.State.{outstanding}
 use Rattle.session.specs.declared.Receipt.{Receipt}
-use Rattle.session.specs.declared.Receipt.TheVariants.{None, Outstanding}
 use Rattle.source.specs.Source.{no_address, known}
 use Rattle.submit.specs.Submit.{Submitted, refused, submitted, stored, added, to_replace}
 use Rattle.account.specs.Cancel.{Changed, changed, deleted_if, cancellable, cancelled_by, cancelled_one, cancelled_all, cancelled}
@@ -100,16 +101,16 @@ module _ (part : List ℕ) where
   acknowledged-cases P none id one = found-cases P _ _ _ one λ _. none
 
   -- a response that settles nothing leaves all as it was, a receipt that is refused is owed again, and one that is accepted is acknowledged
-  pub settled-cases : (P : Settled → Type 0) (h : Header) (receipt : Receipt) → P (settling receipt part) → P (settling None part)
-      → ((id : ℕ) → receipt ≡ Outstanding id h.sequence → h.command ≡ response_to deliver_id → h.status ≡ 0 → P (settling None (acknowledged id part)))
+  pub settled-cases : (P : Settled → Type 0) (h : Header) (receipt : Option Receipt) → P (settling receipt part) → P (settling None part)
+      → ((id : ℕ) → receipt ≡ outstanding id h.sequence → h.command ≡ response_to deliver_id → h.status ≡ 0 → P (settling None (acknowledged id part)))
       → P (settled h receipt part)
   unfolding settled
   settled-cases P h None same owed accepted = same
-  settled-cases P h (Outstanding id sequence) same owed accepted =
+  settled-cases P h (Some r) same owed accepted =
       let response = eqb h.command (response_to deliver_id) in
-      let expected = eqb h.sequence sequence in
+      let expected = eqb h.sequence r.sequence in
       if-cases P _ _ _
       (λ t. if-cases (λ (p : List ℕ). P (settling None p)) _ _ _
-      (λ ok. accepted id (ap (Outstanding id) (sym (eqb-true _ _ (and_right response expected t)))) (eqb-true _ _ (and_left response expected t)) (eqb-true _ 0 ok))
+      (λ ok. accepted r.id (ap (outstanding r.id) (sym (eqb-true _ _ (and_right response expected t)))) (eqb-true _ _ (and_left response expected t)) (eqb-true _ 0 ok))
       (λ _. owed))
       (λ _. same)

@@ -3,6 +3,7 @@ use mathlib.Core.Path.{◌≡◌, refl, ◌∙◌}
 use mathlib.Core.List.{List}
 use Prim.Native.Nat.{ℕ, zero, suc, ◌+◌, ◌*◌}
 use lib.ListN.{length}
+use Rattle.std.specs.Prelude.{Option}
 use Rattle.octets.proofs.PatchLaws.{patch-length}
 use Rattle.wire.specs.declared.frame.Header.{Header}
 use Rattle.records.specs.Layout.{record_size}
@@ -48,5 +49,5 @@ module _ (part : List ℕ) where
   pub acknowledged-length : (id : ℕ) → length (acknowledged id part) ≡ length part
   acknowledged-length id = acknowledged-cases part (λ (p : List ℕ). length p ≡ length part) refl id (λ _ _. patch-length part _ _)
 
-  pub settled-length : (h : Header) (receipt : Receipt) → length (settled h receipt part).part ≡ length part
+  pub settled-length : (h : Header) (receipt : Option Receipt) → length (settled h receipt part).part ≡ length part
   settled-length h receipt = settled-cases part (λ (r : Settled). length r.part ≡ length part) h receipt refl refl (λ id _ _ _. acknowledged-length id)
