@@ -3,12 +3,13 @@
 use Rattle.std.specs.Prelude.{ℕ, Bool, true, false, List, [], ◌∷◌, map, get_or, set, replicate, leb, eqb, Option, Some, None}
 use Rattle.octets.specs.Choice.{when◌then◌else◌}
 pub use Rattle.records.specs.Layout.{account_count}
+use Rattle.session.specs.Refusal.{outcome_number}
 use Rattle.session.specs.declared.Entry.{Entry}
 use Rattle.session.specs.declared.Entry.TheVariants.{Closed, Open, Transmitter, Receiver, Ended}
 use Rattle.session.specs.declared.Receipt.{Receipt}
 use Rattle.session.specs.declared.Session.{Session}
 use Rattle.session.specs.declared.State.{State}
-use Rattle.session.specs.declared.Moved.{Moved}
+use Rattle.session.specs.declared.Handed.{Handed}
 
 abbrev pub session_count : ℕ
 session_count = 16
@@ -90,7 +91,11 @@ granting a (ses ∷ sessions) (r ∷ rs) = granted_to a ses r ∷ granting a ses
 abbrev pub granted : State → ℕ → List (Option Receipt) → State
 granted st a rs = record { sessions = granting a st.sessions rs; lasts = st.lasts }
 
--- ---- opening and closing
+-- ---- opening and closing: a number, and the state handed back
+
+pub record Moved : Type 0 where
+  pub number : ℕ
+  pub state : State
 
 abbrev pub moved : ℕ → State → Moved
 moved number st = record { number = number; state = st }
@@ -109,3 +114,7 @@ opened st s = when leb session_count s then moved 2 st else opened_from st s (en
 -- closing tests 2; it succeeds from any entry and leaves closed
 unfoldable pub closed : State → ℕ → Moved
 closed st s = when leb session_count s then moved 2 st else moved 0 (bound st s Closed)
+
+-- what the code gives, as that
+abbrev pub moved_to : Handed Unit → Moved
+moved_to h = moved (outcome_number h.outcome) h.state

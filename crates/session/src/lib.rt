@@ -1,11 +1,12 @@
 // The state: sixteen sessions, each with the receipt that is outstanding on it, and eight last-issued ids. It goes in by value and comes back.
 #![tactic(auto)]
 
-pub mod number;
+pub mod refusal;
 
-ghost use Rattle.std.specs.Prelude.{◌≡◌, ◌<◌, set};
-ghost use Rattle.session.specs.State.{session_count, account_count, fresh, opened, closed, bound, ended, issued, receiver_of, receipt_for, receipts_of, held_id, held_sequence, held_ids, granted};
+ghost use Rattle.std.specs.Prelude.{◌≡◌, ◌<◌, set, Err};
+ghost use Rattle.session.specs.State.{session_count, account_count, fresh, opened, closed, moved_to, bound, ended, issued, receiver_of, receipt_for, receipts_of, held_id, held_sequence, held_ids, granted};
 
+use crate::refusal::Refusal;
 use records::layout;
 
 // Exactly one of these, each session.
@@ -38,11 +39,23 @@ pub struct State {
     pub lasts: [u32; layout::ACCOUNTS],
 }
 
-// A number, and the state handed back.
+// What a call comes to, and the state handed back.
 #[derive(Clone, Copy)]
-pub struct Moved {
-    pub number: u8,
+pub struct Handed<T> {
+    pub outcome: Result<T, Refusal>,
     pub state: State,
+}
+
+impl<T> Handed<T> {
+    // The state stays as it was.
+    pub fn refused(refusal: Refusal, state: State) -> Handed<T>
+        ensures { result ≡ record { outcome = Err refusal; state = state } }
+    {
+        Handed {
+            outcome: Err(refusal),
+            state,
+        }
+    }
 }
 
 pub const SESSIONS: usize = 16;
@@ -145,41 +158,32 @@ impl State {
         self.bind(session, Entry::Ended)
     }
 
-    pub fn open(self, session: usize) -> Moved
-        ensures { result ≡ opened self session }
+    pub fn open(self, session: usize) -> Handed<()>
+        ensures { moved_to result ≡ opened self session }
     {
         if SESSIONS <= session {
-            return Moved {
-                number: number::NO_SESSION,
-                state: self,
-            };
+            return Handed::refused(Refusal::NoSession, self);
         }
         let Entry::Closed = self.sessions[session].entry else {
-            return Moved {
-                number: number::UNFIT_SESSION,
-                state: self,
-            };
+            return Handed::refused(Refusal::UnfitSession, self);
         };
         let state = self.bind(session, Entry::Open);
-        Moved {
-            number: number::DONE,
+        Handed {
+            outcome: Ok(()),
             state,
         }
     }
 
     // Succeeds from any entry.
-    pub fn close(self, session: usize) -> Moved
-        ensures { result ≡ closed self session }
+    pub fn close(self, session: usize) -> Handed<()>
+        ensures { moved_to result ≡ closed self session }
     {
         if SESSIONS <= session {
-            return Moved {
-                number: number::NO_SESSION,
-                state: self,
-            };
+            return Handed::refused(Refusal::NoSession, self);
         }
         let state = self.bind(session, Entry::Closed);
-        Moved {
-            number: number::DONE,
+        Handed {
+            outcome: Ok(()),
             state,
         }
     }

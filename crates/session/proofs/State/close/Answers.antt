@@ -6,7 +6,7 @@ use Rattle.session.proofs.State.close.Goals as goal
 
 pub returns-then-session-ge-SESSIONS : goal.returns-then-session-ge-SESSIONS
 unfolding closed when◌then◌else◌
-returns-then-session-ge-SESSIONS c = rw (le-leb _ _ c.if-session-ge-SESSIONS.true)
+returns-then-session-ge-SESSIONS c = rw (le-leb _ _ c.if-session-ge-SESSIONS.true, c.refused.ensures)
 
 pub returns : goal.returns
 unfolding closed when◌then◌else◌

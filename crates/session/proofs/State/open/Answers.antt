@@ -19,11 +19,11 @@ stays st s Ended h = refl
 
 pub returns-then-session-ge-SESSIONS : goal.returns-then-session-ge-SESSIONS
 unfolding opened when◌then◌else◌
-returns-then-session-ge-SESSIONS c = rw (le-leb _ _ c.if-session-ge-SESSIONS.true)
+returns-then-session-ge-SESSIONS c = rw (le-leb _ _ c.if-session-ge-SESSIONS.true, c.refused.ensures)
 
 pub returns-in_default : goal.returns-in_default
 unfolding opened when◌then◌else◌
-returns-in_default c = rw (lt-leb _ _ c.if-session-ge-SESSIONS.false) (stays c.args.self c.args.session (entry_at c.args.self c.args.session) c.in_default.not-Closed)
+returns-in_default c = rw (lt-leb _ _ c.if-session-ge-SESSIONS.false, c.refused-in_default.ensures) (stays c.args.self c.args.session (entry_at c.args.self c.args.session) c.in_default.not-Closed)
 
 pub returns : goal.returns
 unfolding opened when◌then◌else◌
