@@ -10,12 +10,12 @@ returns-in_default c = rw c.in_default.is
 
 pub returns-then-header-eq0 : goal.returns-then-header-eq0
 unfolding settled when◌then◌else◌
-returns-then-header-eq0 c = rw (c.in-Some.is, c.if-header-sequence.true, eq-eqb _ _ c.if-header-eq0.true, c.acknowledge.ensures)
+returns-then-header-eq0 c = rw (c.in-Some.is, c.if-header-outstanding.true, eq-eqb _ _ c.if-header-eq0.true, c.acknowledge.ensures)
 
 pub returns-else-header-eq0 : goal.returns-else-header-eq0
 unfolding settled when◌then◌else◌
-returns-else-header-eq0 c = rw (c.in-Some.is, c.if-header-sequence.true, ne_eqb _ _ c.if-header-eq0.false)
+returns-else-header-eq0 c = rw (c.in-Some.is, c.if-header-outstanding.true, ne_eqb _ _ c.if-header-eq0.false)
 
-pub returns-else-header-sequence : goal.returns-else-header-sequence
+pub returns-else-header-outstanding : goal.returns-else-header-outstanding
 unfolding settled when◌then◌else◌
-returns-else-header-sequence c = rw (c.in-Some.is, c.if-header-sequence.false)
+returns-else-header-outstanding c = rw (c.in-Some.is, c.if-header-outstanding.false)
