@@ -1,6 +1,6 @@
 -- Octets on a bound session (document 01, "From octets to a response" and "Effects"; document 02, 1): what is asked of one account, given its book
 -- record, what it has stored (its part of the table, its last id), and the receipt that is outstanding on the session.
-use Rattle.std.specs.Prelude.{ℕ, ◌-◌, Bool, true, false, List, eqb, length, take, drop, Option, None, Some}
+use Rattle.std.specs.Prelude.{ℕ, ◌-◌, Bool, true, false, List, eqb, length, take, drop, Option, None, Some, Result, Ok, Err}
 use Rattle.octets.specs.Choice.{when◌then◌else◌}
 use Rattle.forms.specs.Field.{text_of}
 use Rattle.wire.specs.Status.{invalid_command_id, invalid_bind_status, already_bound}
@@ -21,6 +21,8 @@ use Rattle.account.specs.Replace.{replaced}
 use Rattle.session.specs.declared.Entry.{Entry}
 use Rattle.session.specs.declared.Entry.TheVariants.{Closed, Open, Transmitter, Receiver, Ended}
 use Rattle.session.specs.declared.Receipt.{Receipt}
+use Rattle.session.specs.declared.refusal.Refusal.{Refusal}
+use Rattle.session.specs.Refusal.{number_of}
 use Rattle.receipts.specs.Settle.{settled}
 use Rattle.isolation.specs.Platform.{Effect}
 use Rattle.bound.specs.declared.Acted.{Acted}
@@ -148,12 +150,15 @@ is_transmitter (Transmitter a) = true
 is_transmitter (Receiver a) = false
 is_transmitter Ended = false
 
--- what the code gives, as that: of a PDU, and of the octets
+-- what the code gives, as that: of a PDU, without and with the receipt, and of the octets, where this last id and this receipt were in hand
 abbrev pub acts : Acted → List ℕ → List ℕ → Effect Stored Answer
-acts r part space =
-    record { answer = taken r.number r.consumed r.written space; own = storing part r.last; ends = r.ends }
+acts r part space = record { answer = taken 0 r.consumed r.written space; own = storing part r.last; ends = r.ends }
 
 abbrev pub handles : Handled → List ℕ → List ℕ → Effect Hand Answer
 handles r part space =
     let e = acts r.acted part space in
     record { answer = e.answer; own = record { stored = e.own; receipt = r.receipt }; ends = e.ends }
+
+abbrev pub comes_to : ℕ → Option Receipt → Result Handled Refusal → List ℕ → List ℕ → Effect Hand Answer
+comes_to last receipt (Ok r) part space = handles r part space
+comes_to last receipt (Err refusal) part space = keeping (taken (number_of refusal) 0 0 space) (holding part last receipt)

@@ -10,12 +10,13 @@ ghost use Rattle.answers.specs.Reply.{space_needed, bind_body, reply, over, wrot
 ghost use Rattle.records.specs.Layout.{places, part_size};
 ghost use Rattle.records.specs.Book.{book_record_size};
 ghost use Rattle.store.specs.Places.{record_at};
-ghost use Rattle.bound.specs.Bound.{wire_state, found_body, submit_turn, query_turn, cancel_turn, replace_turn, unbind_turn, replying, bound_pdu, bound_frame, on_bound, storing, holding, settled_by, acts, handles};
+ghost use Rattle.bound.specs.Bound.{wire_state, found_body, submit_turn, query_turn, cancel_turn, replace_turn, unbind_turn, replying, bound_pdu, bound_frame, on_bound, storing, holding, settled_by, acts, handles, comes_to};
 
 use answers::{fixed, reply};
 use records::layout;
 use requests::plain;
-use session::{Receipt, number};
+use session::Receipt;
+use session::refusal::Refusal;
 use store::places::Found;
 use wire::frame::Frame;
 use wire::{frame, status};
@@ -23,7 +24,6 @@ use wire::{frame, status};
 // What an account's turn comes to; its part stands where it was lent.
 #[derive(Clone, Copy)]
 pub struct Acted {
-    pub number: u8,
     pub consumed: usize,
     pub written: usize,
     pub last: u32,
@@ -31,25 +31,11 @@ pub struct Acted {
 }
 
 fn spoken(consumed: usize, written: usize, last: u32) -> Acted
-    ensures { result ≡ record { number = 0; consumed = consumed; written = written; last = last; ends = false } }
+    ensures { result ≡ record { consumed = consumed; written = written; last = last; ends = false } }
 {
     Acted {
-        number: number::DONE,
         consumed,
         written,
-        last,
-        ends: false,
-    }
-}
-
-// Nothing consumed, nothing written.
-fn unheard(number: u8, last: u32) -> Acted
-    ensures { result ≡ record { number = number; consumed = 0; written = 0; last = last; ends = false } }
-{
-    Acted {
-        number,
-        consumed: 0,
-        written: 0,
         last,
         ends: false,
     }
@@ -94,15 +80,7 @@ fn write_found(part: &[u8], k: usize, status: u8, sequence: u32, space: &mut [u8
     let date = forms::field::text_of(&r[layout::FINAL_DATE..layout::ERROR_CODE]);
     let state = wire_state(r[layout::STATE]);
     let error = r[layout::ERROR_CODE];
-    reply::query(
-        space,
-        status,
-        sequence,
-        Some(id),
-        date,
-        state,
-        error,
-    )
+    reply::query(space, status, sequence, Some(id), date, state, error)
 }
 
 fn query_turn(
@@ -184,7 +162,6 @@ fn unbind_turn(consumed: usize, sequence: u32, body: &[u8], space: &mut [u8], la
     let status = requests::plain::read_plain(body);
     let written = reply::bare(space, 0x8000_0006, status, sequence);
     Acted {
-        number: number::DONE,
         consumed,
         written,
         last,
@@ -282,28 +259,24 @@ fn framed(
     part: &mut [u8],
     last: u32,
     receipt: Option<Receipt>,
-) -> Handled
+) -> Result<Handled, Refusal>
     requires { ((length book.now ≡ book_record_size) × (length stamp.now ≡ time_length)) × ((length part.old ≡ part_size) × (space_needed ≤ length space.old)) }
-    ensures { handles result part.new space.new ≡ bound_frame transmitter book.now octets.now stamp.now space.old (frame_of octets.now) (holding part.old last receipt) }
+    ensures { comes_to last receipt result part.new space.new ≡ bound_frame transmitter book.now octets.now stamp.now space.old (frame_of octets.now) (holding part.old last receipt) }
 {
     let first = frame::frame_of(octets);
     match first {
-        Frame::More => Handled {
-            acted: unheard(number::MORE_NEEDED, last),
-            receipt,
-        },
+        Frame::More => Err(Refusal::MoreNeeded),
         Frame::Malformed => {
             let written = fixed::bad_length(space);
             let acted = Acted {
-                number: number::DONE,
                 consumed: 4,
                 written,
                 last,
                 ends: true,
             };
-            Handled { acted, receipt }
+            Ok(Handled { acted, receipt })
         }
-        Frame::Whole(n) => handle(
+        Frame::Whole(n) => Ok(handle(
             transmitter,
             book,
             stamp,
@@ -312,7 +285,7 @@ fn framed(
             part,
             last,
             receipt,
-        ),
+        )),
     }
 }
 
@@ -326,14 +299,13 @@ pub fn on_bound(
     part: &mut [u8],
     last: u32,
     receipt: Option<Receipt>,
-) -> Handled
+) -> Result<Handled, Refusal>
     requires { ((length book.now ≡ book_record_size) × (length stamp.now ≡ time_length)) × ((length part.old ≡ part_size) × (space_needed ≤ length space.old)) }
-    ensures { handles result part.new space.new ≡ on_bound transmitter book.now (record { octets = octets.entry.now; stamp = stamp.now; space = space.old }) (holding part.old last receipt) }
+    ensures { comes_to last receipt result part.new space.new ≡ on_bound transmitter book.now (record { octets = octets.entry.now; stamp = stamp.now; space = space.old }) (holding part.old last receipt) }
 {
     if store::account::is_account_ok(book, last, &part[..]) {
         framed(transmitter, book, octets, stamp, space, part, last, receipt)
     } else {
-        let acted = unheard(number::ACCOUNT_ILL_FORMED, last);
-        Handled { acted, receipt }
+        Err(Refusal::AccountIllFormed)
     }
 }

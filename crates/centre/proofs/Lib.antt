@@ -1,3 +1,4 @@
-pub mod StateLaws
-pub mod SizeLaws
+pub mod EntryLaws
 pub mod PlacedLaws
+pub mod SizeLaws
+pub mod StateLaws

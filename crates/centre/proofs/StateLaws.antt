@@ -4,10 +4,13 @@ use mathlib.Core.Path.{◌≡◌, refl, ap, ◌∙◌}
 use mathlib.Core.Bool.{Bool, true, false}
 use mathlib.Core.List.{List}
 use Prim.Native.Nat.{ℕ}
+use lib.ListN.{get_or, set}
 use lib.Seq.{set-get_or}
+use Rattle.std.specs.Prelude.{Option, None}
 use Rattle.octets.specs.Choice.{when◌then◌else◌}
 use Rattle.session.specs.State.{last_at, receipts_of, ended, issued, granted}
 use Rattle.session.specs.declared.Entry.TheVariants.{Ended}
+use Rattle.session.specs.declared.Receipt.{Receipt}
 use Rattle.session.specs.declared.State.{State}
 use Rattle.session.proofs.ReceiptLaws.{granted-same}
 use Rattle.isolation.specs.Platform.{Own, put_part, put_own, put_entry}
@@ -18,6 +21,11 @@ issued-same st a = ap {B = State} (λ (l : List ℕ). record { sessions = st.ses
 
 pub own_same_lem : (st : State) (a : ℕ) → granted (issued st a (last_at st a)) a (receipts_of st a) ≡ st
 own_same_lem st a = ap (λ (u : State). granted u a (receipts_of st a)) (issued-same st a) ∙ granted-same st a
+
+-- so does all that is an account's own where one session's receipt is put back as it was
+pub kept_lem : (st : State) (a s : ℕ) (r : Option Receipt) → r ≡ get_or (receipts_of st a) s None
+    → granted (issued st a (last_at st a)) a (set (receipts_of st a) s r) ≡ st
+kept_lem st a s r p = rw (p, set-get_or (receipts_of st a) s None) (own_same_lem st a)
 
 -- a session that ends, or goes on
 pub concluded-put : (st : State) (t : List ℕ) (s a : ℕ) (ends : Bool) (o : Own)

@@ -1,12 +1,12 @@
 -- The centre, as a machine of the platform: its `step` is what every public operation is proved to follow.
-use Rattle.std.specs.Prelude.{ℕ, ◌≤◌, ◌≡◌, Bool, not, ◌||◌, List, map, ltb, eqb, length, get_or, set, None}
+use Rattle.std.specs.Prelude.{ℕ, ◌≤◌, ◌≡◌, Bool, not, ◌||◌, List, map, ltb, eqb, length, get_or, set, None, Result, Ok, Err}
 use Rattle.octets.specs.Choice.{when◌then◌else◌}
 use Rattle.forms.specs.Time.{time_length, sent_time}
 use Rattle.answers.specs.Reply.{space_needed}
 use Rattle.records.specs.Book.{book_size, book_record}
 use Rattle.session.specs.State.{receiver_of, held_id}
 use Rattle.session.specs.declared.State.{State}
-use Rattle.session.specs.declared.Moved.{Moved}
+use Rattle.session.specs.State.{Moved}
 use Rattle.isolation.specs.Platform.{World, Own, owning, Step, Front, Ran, Effect, Request, on_session, of_account, Machine, table_size}
 use Rattle.isolation.specs.Platform as P
 use Rattle.answers.specs.Answer.{Octets, Delivery, Call, taking, delivering, Question, outcome, pick, Answer, numbered, refused_delivery, refused_call, refused_question}
@@ -16,8 +16,10 @@ use Rattle.receipts.specs.Offer.{offered}
 use Rattle.open.specs.Open.{stays, on_open}
 use Rattle.bound.specs.Bound.{is_transmitter, Hand, holding, keeping, on_bound}
 use Rattle.centre.specs.Operations.{on_question}
+use Rattle.session.specs.declared.Handed.{Handed}
+use Rattle.session.specs.declared.refusal.Refusal.{Refusal}
+use Rattle.session.specs.Refusal.{number_of}
 use Rattle.centre.specs.declared.take.Taken.{Taken}
-use Rattle.centre.specs.declared.deliver.Delivered.{Delivered}
 
 -- 3: book not 512 octets or table not 32,768
 abbrev pub wrong_sizes : ℕ → ℕ → Bool
@@ -118,13 +120,20 @@ world state table = record { state = state; table = table }
 abbrev pub moves : Moved → List ℕ → Ran Answer
 moves r table = record { answer = numbered r.number; world = world r.state table }
 
-abbrev pub takes : Taken → List ℕ → List ℕ → Ran Answer
-takes r table space =
-    record { answer = A.taken r.number r.consumed r.written space; world = world r.state table }
+abbrev pub took : Result Taken Refusal → List ℕ → Answer
+took (Ok t) space = A.taken 0 t.consumed t.written space
+took (Err refusal) space = A.taken (number_of refusal) 0 0 space
+
+abbrev pub takes : Handed Taken → List ℕ → List ℕ → Ran Answer
+takes h table space = record { answer = took h.outcome space; world = world h.state table }
 
 -- the table is not changed
-abbrev pub delivers : Delivered → List ℕ → List ℕ → Ran Answer
-delivers r table space = record { answer = A.delivered r.number r.written space; world = world r.state table }
+abbrev pub gave_receipt : Result ℕ Refusal → List ℕ → Answer
+gave_receipt (Ok written) space = A.delivered 0 written space
+gave_receipt (Err refusal) space = A.delivered (number_of refusal) 0 space
+
+abbrev pub delivers : Handed ℕ → List ℕ → List ℕ → Ran Answer
+delivers h table space = record { answer = gave_receipt h.outcome space; world = world h.state table }
 
 abbrev pub reports : ℕ → State → List ℕ → Ran Answer
 reports number state table = record { answer = numbered number; world = world state table }

@@ -1,5 +1,5 @@
 -- What the code of an outcome and a pick gives, as the answers of the definition.
-use Rattle.std.specs.Prelude.{ℕ, ◌+◌, ◌*◌, ◌<◌, ◌≡◌, List, length}
+use Rattle.std.specs.Prelude.{ℕ, ◌+◌, ◌*◌, ◌<◌, ◌≡◌, List, length, Result, Ok, Err}
 use Rattle.forms.specs.Time.{time_length}
 use Rattle.octets.specs.Lent.{Lent, lent_first, lent_part}
 use Rattle.records.specs.Layout.{record_size, places}
@@ -8,8 +8,8 @@ use Rattle.store.specs.Places.{record_at}
 use Rattle.session.specs.State.{account_count}
 use Rattle.isolation.specs.Platform.{part_size, table_size}
 use Rattle.answers.specs.Answer.{Answer, numbered, taken, delivered, picked}
-use Rattle.centre.specs.declared.operations.Placed.{Placed}
-use Rattle.centre.specs.declared.operations.Placed.TheVariants.{Refused, Place}
+use Rattle.session.specs.declared.refusal.Refusal.{Refusal}
+use Rattle.session.specs.Refusal.{number_of}
 
 -- place k (0-15) of account a (0-7) starts at octet 4096a + 256k
 abbrev pub start_of : ℕ → ℕ → ℕ
@@ -23,13 +23,13 @@ picked_part a (delivered n written space) table = lent_first 0 table
 picked_part a (picked k r) table = lent_part (start_of a k) record_size table
 
 -- a place of an account's part
-abbrev pub placed : Placed → List ℕ → Answer
-placed (Refused n) xs = numbered n
-placed (Place k) xs = picked k (record_at k xs)
+abbrev pub placed : Result ℕ Refusal → List ℕ → Answer
+placed (Ok k) xs = picked k (record_at k xs)
+placed (Err refusal) xs = numbered (number_of refusal)
 
-abbrev pub OnePlace : Placed → Type 0
-OnePlace (Refused n) = Unit
-OnePlace (Place k) = k < places
+abbrev pub OnePlace : Result ℕ Refusal → Type 0
+OnePlace (Ok k) = k < places
+OnePlace (Err refusal) = Unit
 
 -- a place of one of the accounts, in a whole table
 pub record WithinTable (a k : ℕ) (table : List ℕ) : Type 0 where
@@ -37,9 +37,9 @@ pub record WithinTable (a k : ℕ) (table : List ℕ) : Type 0 where
   pub place_fits : k < places
   pub table_fits : length table ≡ table_size
 
-abbrev pub Inside : Placed → ℕ → List ℕ → Type 0
-Inside (Refused n) a table = Unit
-Inside (Place k) a table = WithinTable a k table
+abbrev pub Inside : Result ℕ Refusal → ℕ → List ℕ → Type 0
+Inside (Ok k) a table = WithinTable a k table
+Inside (Err refusal) a table = Unit
 
 -- what no early number tells of the arguments
 pub record Sized (book table : ℕ) : Type 0 where

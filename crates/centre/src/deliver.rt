@@ -1,6 +1,7 @@
 // Writing a receipt to a session.
-ghost use Rattle.std.specs.Prelude.{◌≡◌, ◌<◌, ◌≤◌, length};
+ghost use Rattle.std.specs.Prelude.{◌≡◌, ◌<◌, ◌≤◌, length, OnOk};
 ghost use Rattle.records.specs.Book.{book_size};
+ghost use Rattle.session.specs.Refusal.{outcome_number};
 ghost use Rattle.session.specs.State.{session_count, receiver_of};
 ghost use Rattle.isolation.specs.Platform.{table_size, Step, on_account};
 ghost use Rattle.answers.specs.Answer.{Call};
@@ -10,37 +11,21 @@ ghost use Rattle.centre.specs.Centre.{delivery_early, Fitting, centre, step, wor
 use crate::sizes;
 use receipts::deliver_sm;
 use records::layout;
-use session::{Entry, State, number};
+use session::refusal::Refusal;
+use session::{Entry, Handed, State};
 
-// A number, how many octets were written, and the state handed back.
-#[derive(Clone, Copy)]
-pub struct Delivered {
-    pub number: u8,
-    pub written: usize,
-    pub state: State,
-}
-
-fn refuse(number: u8, state: State) -> Delivered
-    ensures { result ≡ record { number = number; written = 0; state = state } }
-{
-    Delivered {
-        number,
-        written: 0,
-        state,
-    }
-}
-
-// What the sizes give: 3, 4, or 0.
-fn check(book: usize, table: usize, space: usize) -> u8
-    ensures { (result ≡ delivery_early book table space) × (result ≡ 0 → Fitting book table space) }
+// What the sizes refuse: 3, 4.
+fn check(book: usize, table: usize, space: usize) -> Result<(), Refusal>
+    ensures early { outcome_number result ≡ delivery_early book table space }
+    ensures fit { OnOk result (Fitting book table space) }
 {
     if sizes::is_wrong(book, table) {
-        return number::WRONG_SIZE;
+        return Err(Refusal::WrongSize);
     }
     if space < deliver_sm::LONGEST {
-        return number::SPACE_TOO_SHORT;
+        return Err(Refusal::SpaceTooShort);
     }
-    number::DONE
+    Ok(())
 }
 
 fn deliver_bound(
@@ -53,21 +38,21 @@ fn deliver_bound(
     a: u8,
     sequence: u32,
     space: &mut [u8],
-) -> Delivered
+) -> Handed<usize>
     requires platform { ((length book.now ≡ book_size) × (length table.now ≡ table_size)) × ((session < session_count) × (receiver_of a entry ≡ receiver)) }
     requires call { longest_delivery ≤ length space.old }
     ensures { delivers result table.now space.new ≡ on_account centre book.now (world state table.now) session (Call.delivering (record { sequence = sequence; space = space.old })) entry a }
 {
     let account = a as usize;
     if layout::ACCOUNTS <= account {
-        return refuse(number::ACCOUNT_ILL_FORMED, state);
+        return Handed::refused(Refusal::AccountIllFormed, state);
     }
     let record = records::book::record_of(book, account);
     let last = state.lasts[account];
     let receipt = session::receipt_for(account, state.sessions[session]);
     let ids = state.held(account);
     let at = layout::PART_SIZE * account;
-    let offer = receipts::offer::offer_receipt(
+    let offered = receipts::offer::offer_receipt(
         receiver,
         record,
         last,
@@ -77,16 +62,16 @@ fn deliver_bound(
         sequence,
         space,
     );
-    let kept = offer.receipt;
-    let next = state.grant(session, account, kept, last);
-    Delivered {
-        number: offer.number,
-        written: offer.written,
-        state: next,
+    match offered {
+        Err(refusal) => Handed::refused(refusal, state),
+        Ok(offer) => Handed {
+            outcome: Ok(offer.written),
+            state: state.grant(session, account, Some(offer.receipt), last),
+        },
     }
 }
 
-// Writes one deliver_sm, for the lowest id owed. The first number that applies is given: 2, 3, 4, 6, 9, 12, 13.
+// Writes one deliver_sm, for the lowest id owed, and tells how many octets it has. The first number that applies is given: 2, 3, 4, 6, 9, 12, 13.
 pub fn deliver(
     book: &[u8],
     table: &[u8],
@@ -94,27 +79,24 @@ pub fn deliver(
     session: usize,
     sequence: u32,
     space: &mut [u8],
-) -> Delivered
+) -> Handed<usize>
     ensures { delivers result table.now space.new ≡ step book.now (world state table.now) (Step.on session (Call.delivering (record { sequence = sequence; space = space.old }))) }
 {
     if session::SESSIONS <= session {
-        return refuse(number::NO_SESSION, state);
+        return Handed::refused(Refusal::NoSession, state);
     }
-    let early = check(book.len(), table.len(), space.len());
-    if early != 0 {
-        return refuse(early, state);
+    if let Err(refusal) = check(book.len(), table.len(), space.len()) {
+        return Handed::refused(refusal, state);
     }
-    let x = state.sessions[session];
-    let entry = x.entry;
+    let entry = state.sessions[session].entry;
     match entry {
-        Entry::Closed => refuse(number::UNFIT_SESSION, state),
-        Entry::Open => refuse(number::NO_RECEIVER, state),
+        Entry::Closed | Entry::Ended => Handed::refused(Refusal::UnfitSession, state),
+        Entry::Open => Handed::refused(Refusal::NoReceiver, state),
         Entry::Transmitter(a) => deliver_bound(
             book, table, state, session, entry, false, a, sequence, space,
         ),
         Entry::Receiver(a) => deliver_bound(
             book, table, state, session, entry, true, a, sequence, space,
         ),
-        Entry::Ended => refuse(number::UNFIT_SESSION, state),
     }
 }

@@ -1,9 +1,10 @@
 // Reporting an outcome and picking the next message to send.
-ghost use Rattle.std.specs.Prelude.{◌≡◌, ◌<◌, length};
+ghost use Rattle.std.specs.Prelude.{◌≡◌, ◌<◌, length, OnOk};
 ghost use Rattle.octets.specs.Lent.{lent};
 ghost use Rattle.forms.specs.Time.{time_length};
 ghost use Rattle.records.specs.Book.{book_record_size};
 ghost use Rattle.records.specs.Layout.{places, part_size};
+ghost use Rattle.session.specs.Refusal.{outcome_number};
 ghost use Rattle.session.specs.State.{account_count};
 ghost use Rattle.isolation.specs.Platform.{Step, part_of};
 ghost use Rattle.answers.specs.Answer.{Question, number_of, picked_record};
@@ -13,19 +14,21 @@ ghost use Rattle.centre.specs.Pick.{start_of, picked_part, placed, OnePlace, Ins
 
 use crate::sizes;
 use records::layout;
-use session::{State, number};
+use session::refusal::Refusal;
+use session::{State, refusal};
 use store::places::Found;
 
-fn check_outcome(book: usize, table: usize, stamp: &[u8]) -> u8
-    ensures { (result ≡ outcome_early book table stamp.now) × (result ≡ 0 → Stamped book table stamp.now) }
+fn check_outcome(book: usize, table: usize, stamp: &[u8]) -> Result<(), Refusal>
+    ensures early { outcome_number result ≡ outcome_early book table stamp.now }
+    ensures fit { OnOk result (Stamped book table stamp.now) }
 {
     if sizes::is_wrong(book, table) {
-        return number::WRONG_SIZE;
+        return Err(Refusal::WrongSize);
     }
     if !forms::time::is_sent_time(stamp) {
-        return number::STAMP_ILL_FORMED;
+        return Err(Refusal::StampIllFormed);
     }
-    number::DONE
+    Ok(())
 }
 
 fn is_outcome(state: u8) -> bool
@@ -42,20 +45,20 @@ fn on_outcome(
     id: u32,
     state: u8,
     error: u8,
-) -> u8
+) -> Result<(), Refusal>
     requires { (length book.now ≡ book_record_size) × ((length part.old ≡ part_size) × (length stamp.now ≡ time_length)) }
-    ensures { noting result part.new ≡ noted book.now (record { stamp = stamp.entry.now; id = id; state = state; error = error }) last part.old }
+    ensures { noting (outcome_number result) part.new ≡ noted book.now (record { stamp = stamp.entry.now; id = id; state = state; error = error }) last part.old }
 {
     if !is_outcome(state) {
-        return number::NO_OUTCOME;
+        return Err(Refusal::NoOutcome);
     }
     if !store::account::is_account_ok(book, last, &part[..]) {
-        return number::ACCOUNT_ILL_FORMED;
+        return Err(Refusal::AccountIllFormed);
     }
     if account::outcome::report(part, stamp, id, state, error) {
-        number::DONE
+        Ok(())
     } else {
-        number::NOT_WAITING
+        Err(Refusal::NotWaiting)
     }
 }
 
@@ -69,15 +72,12 @@ pub fn outcome(
     id: u32,
     outcome: u8,
     error: u8,
-) -> u8
-    ensures { reports result state table.new ≡ step book.now (world state table.old) (Step.of account (Question.outcome (record { stamp = stamp.entry.now; id = id; state = outcome; error = error }))) }
+) -> Result<(), Refusal>
+    ensures { reports (outcome_number result) state table.new ≡ step book.now (world state table.old) (Step.of account (Question.outcome (record { stamp = stamp.entry.now; id = id; state = outcome; error = error }))) }
 {
-    let early = check_outcome(book.len(), table.len(), stamp);
-    if early != 0 {
-        return early;
-    }
+    check_outcome(book.len(), table.len(), stamp)?;
     if layout::ACCOUNTS <= account {
-        return number::NO_ACCOUNT;
+        return Err(Refusal::NoAccount);
     }
     let record = records::book::record_of(book, account);
     let last = state.lasts[account];
@@ -93,47 +93,38 @@ pub fn outcome(
     )
 }
 
-// The place that is picked, or the number why none is.
-#[derive(Clone, Copy)]
-pub enum Placed {
-    Refused(u8),
-    Place(usize),
-}
-
-fn on_pick(book: &[u8], part: &[u8], last: u32) -> Placed
+fn on_pick(book: &[u8], part: &[u8], last: u32) -> Result<usize, Refusal>
     requires { (length book.now ≡ book_record_size) × (length part.now ≡ part_size) }
     ensures { (placed result part.now ≡ picked_from book.now last part.now) × OnePlace result }
 {
-    if !store::account::is_account_ok(book, last, part) {
-        return Placed::Refused(number::ACCOUNT_ILL_FORMED);
-    }
-    let found = store::search::find_next(part);
-    match found {
-        Found::At(k) => Placed::Place(k),
-        Found::Nowhere => Placed::Refused(number::NOTHING_WAITING),
+    if store::account::is_account_ok(book, last, part) {
+        match store::search::find_next(part) {
+            Found::At(k) => Ok(k),
+            Found::Nowhere => Err(Refusal::NothingWaiting),
+        }
+    } else {
+        Err(Refusal::AccountIllFormed)
     }
 }
 
-fn check_pick(book: usize, table: usize) -> u8
-    ensures { (result ≡ pick_early book table) × (result ≡ 0 → Sized book table) }
+fn check_pick(book: usize, table: usize) -> Result<(), Refusal>
+    ensures early { outcome_number result ≡ pick_early book table }
+    ensures fit { OnOk result (Sized book table) }
 {
     if sizes::is_wrong(book, table) {
-        number::WRONG_SIZE
+        Err(Refusal::WrongSize)
     } else {
-        number::DONE
+        Ok(())
     }
 }
 
 // The account's place that is picked. The account is tested here, once, for the number, the part and the octet that callers make of it.
-pub fn locate(book: &[u8], table: &[u8], state: State, account: usize) -> Placed
+pub fn locate(book: &[u8], table: &[u8], state: State, account: usize) -> Result<usize, Refusal>
     ensures { (placed result (part_of account table.now) ≡ (step book.now (world state table.now) (Step.of account Question.pick)).answer) × Inside result account table.now }
 {
-    let early = check_pick(book.len(), table.len());
-    if early != 0 {
-        return Placed::Refused(early);
-    }
+    check_pick(book.len(), table.len())?;
     if layout::ACCOUNTS <= account {
-        return Placed::Refused(number::NO_ACCOUNT);
+        return Err(Refusal::NoAccount);
     }
     let record = records::book::record_of(book, account);
     let last = state.lasts[account];
@@ -153,21 +144,16 @@ pub fn start_of(account: usize, place: usize) -> usize
 pub fn pick_number(book: &[u8], table: &[u8], state: State, account: usize) -> u8
     ensures { result ≡ number_of (step book.now (world state table.now) (Step.of account Question.pick)).answer }
 {
-    let placed = locate(book, table, state, account);
-    match placed {
-        Placed::Refused(n) => n,
-        Placed::Place(_) => number::DONE,
-    }
+    refusal::number_of(locate(book, table, state, account))
 }
 
 // The record itself, as part of the table, where the number is 0; else nothing.
 pub fn pick<'a>(book: &[u8], table: &'a [u8], state: State, account: usize) -> &'a [u8]
     ensures { (lent result ≡ picked_part account (step book.now (world state table.now) (Step.of account Question.pick)).answer (lent table.entry)) × (result.now ≡ picked_record (step book.now (world state table.now) (Step.of account Question.pick)).answer) }
 {
-    let placed = locate(book, table, state, account);
-    match placed {
-        Placed::Refused(_) => &table[..0],
-        Placed::Place(k) => {
+    match locate(book, table, state, account) {
+        Err(_) => &table[..0],
+        Ok(k) => {
             let at = start_of(account, k);
             &table[at..at + layout::RECORD_SIZE]
         }

@@ -1,9 +1,10 @@
 // Taking octets on a session.
-ghost use Rattle.std.specs.Prelude.{◌≡◌, ℕ, ◌<◌, ◌≤◌, List, length, set};
+ghost use Rattle.std.specs.Prelude.{◌≡◌, ℕ, ◌<◌, ◌≤◌, List, length, set, OnOk};
 ghost use Rattle.forms.specs.Time.{time_length};
 ghost use Rattle.answers.specs.Reply.{space_needed};
 ghost use Rattle.records.specs.Book.{book_size};
 ghost use Rattle.session.specs.State.{session_count, account_count, ended, issued, receipts_of, granted};
+ghost use Rattle.session.specs.Refusal.{outcome_number};
 ghost use Rattle.session.specs.declared.Entry.TheVariants.{Open};
 ghost use Rattle.isolation.specs.Platform.{table_size, Step, become, on_account, on_entry};
 ghost use Rattle.octets.specs.Choice.{when◌then◌else◌};
@@ -14,42 +15,31 @@ ghost use Rattle.centre.specs.Centre.{octets_early, Fit, centre, step, world, ta
 use crate::sizes;
 use answers::reply;
 use records::layout;
-use session::{Entry, Receipt, State, number};
+use session::refusal::Refusal;
+use session::{Entry, Handed, Receipt, State};
 
-// A number, how many octets were consumed and written, and the state handed back.
+// How many octets were consumed and written.
 #[derive(Clone, Copy)]
 pub struct Taken {
-    pub number: u8,
     pub consumed: usize,
     pub written: usize,
-    pub state: State,
 }
 
-fn refuse(number: u8, state: State) -> Taken
-    ensures { result ≡ record { number = number; consumed = 0; written = 0; state = state } }
-{
-    Taken {
-        number,
-        consumed: 0,
-        written: 0,
-        state,
-    }
-}
-
-// What the sizes and the stamp give: 3, 4, 5, or 0.
-fn check(book: usize, table: usize, stamp: &[u8], space: usize) -> u8
-    ensures { (result ≡ octets_early book table stamp.now space) × (result ≡ 0 → Fit book table stamp.now space) }
+// What the sizes and the stamp refuse: 3, 4, 5.
+fn check(book: usize, table: usize, stamp: &[u8], space: usize) -> Result<(), Refusal>
+    ensures early { outcome_number result ≡ octets_early book table stamp.now space }
+    ensures fit { OnOk result (Fit book table stamp.now space) }
 {
     if sizes::is_wrong(book, table) {
-        return number::WRONG_SIZE;
+        return Err(Refusal::WrongSize);
     }
     if space < reply::SPACE_NEEDED {
-        return number::SPACE_TOO_SHORT;
+        return Err(Refusal::SpaceTooShort);
     }
     if !forms::time::is_sent_time(stamp) {
-        return number::STAMP_ILL_FORMED;
+        return Err(Refusal::StampIllFormed);
     }
-    number::DONE
+    Ok(())
 }
 
 // A session that stays open is left as it was.
@@ -58,26 +48,30 @@ fn follow(state: State, session: usize, entry: Entry) -> State
     ensures { (table : List ℕ) → world result table ≡ become (world state table) session entry }
 {
     match entry {
-        Entry::Closed => state.bind(session, entry),
         Entry::Open => state,
-        Entry::Transmitter(_) => state.bind(session, entry),
-        Entry::Receiver(_) => state.bind(session, entry),
-        Entry::Ended => state.bind(session, entry),
+        _ => state.bind(session, entry),
     }
 }
 
-fn take_open(book: &[u8], state: State, session: usize, octets: &[u8], space: &mut [u8]) -> Taken
+fn take_open(
+    book: &[u8],
+    state: State,
+    session: usize,
+    octets: &[u8],
+    space: &mut [u8],
+) -> Handed<Taken>
     requires { (length book.now ≡ book_size) × ((session < session_count) × (space_needed ≤ length space.old)) }
     ensures { (stamp table : List ℕ) → takes result table space.new ≡ on_entry centre book.now (world state table) session (Call.taking (record { octets = octets.entry.now; stamp = stamp; space = space.old })) Open }
 {
-    let fronted = open::on_open(book, octets, space);
-    let entry = fronted.entry;
-    let next = follow(state, session, entry);
-    Taken {
-        number: fronted.number,
-        consumed: fronted.consumed,
-        written: fronted.written,
-        state: next,
+    match open::on_open(book, octets, space) {
+        Err(refusal) => Handed::refused(refusal, state),
+        Ok(fronted) => Handed {
+            outcome: Ok(Taken {
+                consumed: fronted.consumed,
+                written: fronted.written,
+            }),
+            state: follow(state, session, fronted.entry),
+        },
     }
 }
 
@@ -112,20 +106,20 @@ fn take_bound(
     octets: &[u8],
     stamp: &[u8],
     space: &mut [u8],
-) -> Taken
+) -> Handed<Taken>
     requires platform { ((length book.now ≡ book_size) × (length table.old ≡ table_size)) × ((session < session_count) × (is_transmitter entry ≡ transmitter)) }
     requires call { (length stamp.now ≡ time_length) × (space_needed ≤ length space.old) }
     ensures { takes result table.new space.new ≡ on_account centre book.now (world state table.old) session (Call.taking (record { octets = octets.entry.now; stamp = stamp.now; space = space.old })) entry a }
 {
     let account = a as usize;
     if layout::ACCOUNTS <= account {
-        return refuse(number::ACCOUNT_ILL_FORMED, state);
+        return Handed::refused(Refusal::AccountIllFormed, state);
     }
     let record = records::book::record_of(book, account);
     let last = state.lasts[account];
     let receipt = session::receipt_for(account, state.sessions[session]);
     let at = layout::PART_SIZE * account;
-    let handled = bound::on_bound(
+    let came = bound::on_bound(
         transmitter,
         record,
         octets,
@@ -135,14 +129,25 @@ fn take_bound(
         last,
         receipt,
     );
-    let acted = handled.acted;
-    let kept = handled.receipt;
-    let next = conclude(state, session, account, acted.ends, kept, acted.last);
-    Taken {
-        number: acted.number,
-        consumed: acted.consumed,
-        written: acted.written,
-        state: next,
+    match came {
+        Err(refusal) => Handed::refused(refusal, state),
+        Ok(handled) => {
+            let acted = handled.acted;
+            Handed {
+                outcome: Ok(Taken {
+                    consumed: acted.consumed,
+                    written: acted.written,
+                }),
+                state: conclude(
+                    state,
+                    session,
+                    account,
+                    acted.ends,
+                    handled.receipt,
+                    acted.last,
+                ),
+            }
+        }
     }
 }
 
@@ -155,20 +160,18 @@ pub fn take(
     octets: &[u8],
     stamp: &[u8],
     space: &mut [u8],
-) -> Taken
+) -> Handed<Taken>
     ensures { takes result table.new space.new ≡ step book.now (world state table.old) (Step.on session (Call.taking (record { octets = octets.entry.now; stamp = stamp.now; space = space.old }))) }
 {
     if session::SESSIONS <= session {
-        return refuse(number::NO_SESSION, state);
+        return Handed::refused(Refusal::NoSession, state);
     }
-    let early = check(book.len(), table.len(), stamp, space.len());
-    if early != 0 {
-        return refuse(early, state);
+    if let Err(refusal) = check(book.len(), table.len(), stamp, space.len()) {
+        return Handed::refused(refusal, state);
     }
-    let x = state.sessions[session];
-    let entry = x.entry;
+    let entry = state.sessions[session].entry;
     match entry {
-        Entry::Closed => refuse(number::UNFIT_SESSION, state),
+        Entry::Closed | Entry::Ended => Handed::refused(Refusal::UnfitSession, state),
         Entry::Open => take_open(book, state, session, octets, space),
         Entry::Transmitter(a) => take_bound(
             book, table, state, session, entry, true, a, octets, stamp, space,
@@ -176,6 +179,5 @@ pub fn take(
         Entry::Receiver(a) => take_bound(
             book, table, state, session, entry, false, a, octets, stamp, space,
         ),
-        Entry::Ended => refuse(number::UNFIT_SESSION, state),
     }
 }

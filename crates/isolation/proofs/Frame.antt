@@ -11,7 +11,7 @@ use Rattle.octets.proofs.StretchLaws.{or_left, or_right, if-cases}
 use Rattle.session.specs.State.{session_count, account_count, entry_at, opened, opened_from, closed}
 use Rattle.session.specs.declared.Entry.{Entry}
 use Rattle.session.specs.declared.Entry.TheVariants.{Closed, Open, Transmitter, Receiver, Ended}
-use Rattle.session.specs.declared.Moved.{Moved}
+use Rattle.session.specs.State.{Moved}
 use Rattle.isolation.specs.Platform.{table_size, World, put_own, put_entry, become, Step, opens, closes, on, of, Request, on_session, of_account, Ran, Machine, ask, move, on_account, on_entry, on_after, of_after, step}
 use Rattle.isolation.specs.History.{bound_to, bound_in, names, concerns}
 use Rattle.isolation.specs.Isolation.{Keeps}

@@ -10,7 +10,7 @@ use Rattle.octets.proofs.PatchLaws.{patch-length}
 use Rattle.session.specs.State.{session_count, account_count, session_with, entry_at, opened, opened_from, closed}
 use Rattle.session.specs.declared.Entry.{Entry}
 use Rattle.session.specs.declared.Entry.TheVariants.{Closed, Open, Transmitter, Receiver, Ended}
-use Rattle.session.specs.declared.Moved.{Moved}
+use Rattle.session.specs.State.{Moved}
 use Rattle.session.proofs.ReceiptLaws.{granting-length}
 use Rattle.isolation.specs.Platform.{part_size, table_size, World, fresh, Own, put_own, put_entry, become, Step, opens, closes, on, of, Request, on_session, Ran, Machine, ask, move, on_account, on_entry, on_after, of_after, step}
 use Rattle.isolation.specs.History.{Kept, reopened, anew, alone_step}

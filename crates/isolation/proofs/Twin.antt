@@ -11,7 +11,7 @@ use Rattle.octets.proofs.StretchLaws.{or_right, and_right, and-false, if-cases}
 use Rattle.session.specs.State.{session_count, account_count, entry_at, opened, opened_from, closed}
 use Rattle.session.specs.declared.Entry.{Entry}
 use Rattle.session.specs.declared.Entry.TheVariants.{Closed, Open, Transmitter, Receiver, Ended}
-use Rattle.session.specs.declared.Moved.{Moved}
+use Rattle.session.specs.State.{Moved}
 use Rattle.isolation.specs.Platform.{part_size, table_size, World, Own, put_entry, become, Step, opens, closes, on, of, Request, on_session, of_account, Effect, Ran, Machine, unchanged, ask, put, move, conclude, on_account, on_entry, on_after, of_after, step}
 use Rattle.isolation.specs.History.{bound_to, bound_in, names, concerns, binds, reopened, anew, alone_step}
 use Rattle.isolation.specs.Isolation.{Keeps}

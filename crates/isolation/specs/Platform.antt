@@ -11,7 +11,7 @@ use Rattle.session.specs.declared.Entry.{Entry}
 use Rattle.session.specs.declared.Entry.TheVariants.{Closed, Open, Transmitter, Receiver, Ended}
 use Rattle.session.specs.declared.Receipt.{Receipt}
 use Rattle.session.specs.declared.State.{State}
-use Rattle.session.specs.declared.Moved.{Moved}
+use Rattle.session.specs.State.{Moved}
 
 -- account a's part of the table, and the table with that part replaced
 abbrev pub part_of : ℕ → List ℕ → List ℕ

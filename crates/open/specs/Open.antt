@@ -1,5 +1,5 @@
 -- Octets on an open session (document 01, "From octets to a response" and "Effects"): it has no account, and the table has no say.
-use Rattle.std.specs.Prelude.{ℕ, Bool, true, false, not, List, eqb, length, take, drop, None}
+use Rattle.std.specs.Prelude.{ℕ, Bool, true, false, not, List, eqb, length, take, drop, None, Result, Ok, Err}
 use Rattle.octets.specs.Choice.{when◌then◌else◌}
 use Rattle.wire.specs.Status.{invalid_command_id, invalid_bind_status, invalid_password}
 use Rattle.wire.specs.Frame.{frame_of, header_of}
@@ -15,6 +15,8 @@ use Rattle.store.specs.Search.{named_place}
 use Rattle.store.specs.Places.{on_found}
 use Rattle.session.specs.declared.Entry.{Entry}
 use Rattle.session.specs.declared.Entry.TheVariants.{Open, Transmitter, Receiver, Ended}
+use Rattle.session.specs.declared.refusal.Refusal.{Refusal}
+use Rattle.session.specs.Refusal.{number_of}
 use Rattle.isolation.specs.Platform.{Front}
 use Rattle.open.specs.declared.Bound.{Bound}
 use Rattle.open.specs.declared.Fronted.{Fronted}
@@ -76,6 +78,10 @@ open_frame book octets space (Whole n) = open_pdu book (take n octets) space
 unfoldable pub on_open : List ℕ → Octets → Front Answer
 on_open book x = open_frame book x.octets x.space (frame_of x.octets)
 
--- what the code gives, as that
+-- what the code gives, as that: of a PDU, and of the octets
 abbrev pub answers : Fronted → List ℕ → Front Answer
-answers r space = record { answer = taken r.number r.consumed r.written space; after = r.entry }
+answers r space = record { answer = taken 0 r.consumed r.written space; after = r.entry }
+
+abbrev pub fronts : Result Fronted Refusal → List ℕ → Front Answer
+fronts (Ok r) space = answers r space
+fronts (Err refusal) space = stays (taken (number_of refusal) 0 0 space)

@@ -4,13 +4,14 @@
 ghost use Rattle.std.specs.Prelude.{◌≡◌, ◌≤◌, length};
 ghost use Rattle.answers.specs.Reply.{space_needed};
 ghost use Rattle.records.specs.Book.{book_size};
-ghost use Rattle.open.specs.Open.{leg_of, bind_to, open_bind, open_command, open_pdu, open_frame, answers};
+ghost use Rattle.open.specs.Open.{leg_of, bind_to, open_bind, open_command, open_pdu, open_frame, answers, fronts};
 ghost use Rattle.wire.specs.Command.{command_of};
 ghost use Rattle.wire.specs.Frame.{frame_of};
 
 use answers::{fixed, reply};
 use requests::plain;
-use session::{Entry, number};
+use session::Entry;
+use session::refusal::Refusal;
 use store::places::Found;
 use wire::frame::Frame;
 use wire::{fields, frame, status};
@@ -25,7 +26,6 @@ pub struct Bound {
 // What octets on an open session come to: nothing of the account's is at hand.
 #[derive(Clone, Copy)]
 pub struct Fronted {
-    pub number: u8,
     pub consumed: usize,
     pub written: usize,
     pub entry: Entry,
@@ -98,7 +98,6 @@ fn open_bind(
     let written = reply::bind(space, id, bound.status, sequence);
     let entry = bound.entry;
     Fronted {
-        number: number::DONE,
         consumed,
         written,
         entry,
@@ -106,10 +105,9 @@ fn open_bind(
 }
 
 fn stay(consumed: usize, written: usize) -> Fronted
-    ensures { result ≡ record { number = 0; consumed = consumed; written = written; entry = Entry.Open } }
+    ensures { result ≡ record { consumed = consumed; written = written; entry = Entry.Open } }
 {
     Fronted {
-        number: number::DONE,
         consumed,
         written,
         entry: Entry::Open,
@@ -163,27 +161,21 @@ fn open_pdu(book: &[u8], pdu: &[u8], space: &mut [u8]) -> Fronted
     )
 }
 
-pub fn on_open(book: &[u8], octets: &[u8], space: &mut [u8]) -> Fronted
+pub fn on_open(book: &[u8], octets: &[u8], space: &mut [u8]) -> Result<Fronted, Refusal>
     requires { (length book.now ≡ book_size) × (space_needed ≤ length space.old) }
-    ensures { answers result space.new ≡ open_frame book.now octets.now space.old (frame_of octets.now) }
+    ensures { fronts result space.new ≡ open_frame book.now octets.now space.old (frame_of octets.now) }
 {
     let framed = frame::frame_of(octets);
     match framed {
-        Frame::More => Fronted {
-            number: number::MORE_NEEDED,
-            consumed: 0,
-            written: 0,
-            entry: Entry::Open,
-        },
+        Frame::More => Err(Refusal::MoreNeeded),
         Frame::Malformed => {
             let written = fixed::bad_length(space);
-            Fronted {
-                number: number::DONE,
+            Ok(Fronted {
                 consumed: 4,
                 written,
                 entry: Entry::Ended,
-            }
+            })
         }
-        Frame::Whole(n) => open_pdu(book, &octets[..n], space),
+        Frame::Whole(n) => Ok(open_pdu(book, &octets[..n], space)),
     }
 }

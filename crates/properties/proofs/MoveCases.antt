@@ -8,7 +8,7 @@ use Rattle.octets.proofs.StretchLaws.{if-cases}
 use Rattle.session.specs.State.{session_count, entry_at, opened, opened_from, closed}
 use Rattle.session.specs.declared.Entry.{Entry}
 use Rattle.session.specs.declared.Entry.TheVariants.{Closed, Open, Transmitter, Receiver, Ended}
-use Rattle.session.specs.declared.Moved.{Moved}
+use Rattle.session.specs.State.{Moved}
 use Rattle.isolation.specs.Platform.{World, put_entry, opens, closes, Ran, unchanged, move, step}
 use Rattle.answers.specs.Answer.{Answer, numbered}
 use Rattle.centre.specs.Centre.{centre}

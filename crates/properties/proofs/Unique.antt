@@ -7,7 +7,7 @@ use mathlib.Core.List.{List}
 use Rattle.session.specs.declared.Entry.{Entry}
 use Rattle.session.specs.declared.Receipt.{Receipt}
 use Rattle.session.specs.declared.State.{State}
-use Rattle.session.specs.declared.Moved.{Moved}
+use Rattle.session.specs.State.{Moved}
 use Rattle.answers.specs.Answer.{Answer}
 use Rattle.answers.specs.Answer as A
 use Rattle.submit.specs.Submit.{Submitted, gave}

@@ -1,5 +1,5 @@
 -- The receipt that is written on request to a session of an account (document 02, 1).
-use Rattle.std.specs.Prelude.{ℕ, Bool, not, ◌||◌, List, Option, is_some}
+use Rattle.std.specs.Prelude.{ℕ, Bool, not, ◌||◌, List, Option, is_some, Some, Result, Ok, Err}
 use Rattle.octets.specs.Choice.{when◌then◌else◌}
 use Rattle.records.specs.Layout.{id_of}
 use Rattle.store.specs.Places.{record_at, on_found}
@@ -7,6 +7,8 @@ use Rattle.store.specs.Search.{owed_place}
 use Rattle.store.specs.Account.{account_ok}
 use Rattle.session.specs.State.{outstanding}
 use Rattle.session.specs.declared.Receipt.{Receipt}
+use Rattle.session.specs.declared.refusal.Refusal.{Refusal}
+use Rattle.session.specs.Refusal.{number_of}
 use Rattle.answers.specs.Reply.{over}
 use Rattle.answers.specs.Answer.{Delivery, Answer, delivered, refused_delivery}
 use Rattle.receipts.specs.DeliverSm.{deliver_sm}
@@ -35,6 +37,7 @@ offered receiver book last part ids receipt y =
     else when not receiver || is_some receipt then refusing receipt y 12
     else on_found (owed_place ids part) (λ k. sent y (record_at k part)) (refusing receipt y 13)
 
--- what the code gives, as that
-abbrev pub offers : Offer → List ℕ → Offered
-offers r space = record { answer = delivered r.number r.written space; receipt = r.receipt }
+-- what the code gives, as that, for a session with this receipt
+abbrev pub offers : Option Receipt → Result Offer Refusal → List ℕ → Offered
+offers receipt (Ok o) space = record { answer = delivered 0 o.written space; receipt = Some o.receipt }
+offers receipt (Err refusal) space = record { answer = delivered (number_of refusal) 0 space; receipt = receipt }

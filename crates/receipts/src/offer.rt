@@ -6,25 +6,15 @@ ghost use Rattle.receipts.specs.DeliverSm.{longest_delivery};
 ghost use Rattle.receipts.specs.Offer.{offered, offers};
 
 use crate::deliver_sm;
-use session::{Receipt, number};
+use session::Receipt;
+use session::refusal::Refusal;
 use store::places::Found;
 
-// A number, how many octets were written, and the session's receipt afterwards.
+// How many octets were written for a receipt, and the receipt, outstanding from now on.
 #[derive(Clone, Copy)]
 pub struct Offer {
-    pub number: u8,
     pub written: usize,
-    pub receipt: Option<Receipt>,
-}
-
-fn refuse(number: u8, receipt: Option<Receipt>) -> Offer
-    ensures { result ≡ record { number = number; written = 0; receipt = receipt } }
-{
-    Offer {
-        number,
-        written: 0,
-        receipt,
-    }
+    pub receipt: Receipt,
 }
 
 // The account is tested once; then 12, 13, or the receipt for the lowest id owed that is none of `ids`.
@@ -37,26 +27,25 @@ pub fn offer_receipt(
     receipt: Option<Receipt>,
     sequence: u32,
     space: &mut [u8],
-) -> Offer
+) -> Result<Offer, Refusal>
     requires { ((length book.now ≡ book_record_size) × (length part.now ≡ part_size)) × (longest_delivery ≤ length space.old) }
-    ensures { offers result space.new ≡ offered receiver book.now last part.now ids.now receipt (record { sequence = sequence; space = space.old }) }
+    ensures { offers receipt result space.new ≡ offered receiver book.now last part.now ids.now receipt (record { sequence = sequence; space = space.old }) }
 {
     if !store::account::is_account_ok(book, last, part) {
-        return refuse(number::ACCOUNT_ILL_FORMED, receipt);
+        return Err(Refusal::AccountIllFormed);
     }
     if !receiver | receipt.is_some() {
-        return refuse(number::NO_RECEIVER, receipt);
+        return Err(Refusal::NoReceiver);
     }
     let found = store::search::find_owed(part, ids);
     let Found::At(k) = found else {
-        return refuse(number::NOTHING_OWED, receipt);
+        return Err(Refusal::NothingOwed);
     };
     let r = store::places::record_at(part, k);
     let written = deliver_sm::write(space, sequence, r);
     let id = octets::number::number_at(r, records::layout::ID);
-    Offer {
-        number: number::DONE,
+    Ok(Offer {
         written,
-        receipt: Some(Receipt { id, sequence }),
-    }
+        receipt: Receipt { id, sequence },
+    })
 }

@@ -1,2 +1,3 @@
 pub mod MapLaws
 pub mod ReceiptLaws
+pub mod RefusalLaws

@@ -10,4 +10,4 @@ returns-then-is_account_ok c = rw (sym c.is_account_ok.ensures ∙ c.if-is_accou
 
 pub returns-else-is_account_ok : goal.returns-else-is_account_ok
 unfolding on_bound when◌then◌else◌
-returns-else-is_account_ok c = rw (sym c.is_account_ok.ensures ∙ c.if-is_account_ok.false, c.unheard-acted.ensures)
+returns-else-is_account_ok c = rw (sym c.is_account_ok.ensures ∙ c.if-is_account_ok.false)

@@ -1,6 +1,5 @@
 -- `centre::operations::check_outcome` meets its contract. Assumes nothing.
 use mathlib.Core.Path.{sym, ◌∙◌}
-use native.Mathlib.Omega.{arith}
 use Rattle.octets.specs.Choice.{when◌then◌else◌}
 use Rattle.forms.proofs.TimeLaws.{sent-length}
 use Rattle.centre.specs.Centre.{outcome_early}
@@ -9,17 +8,18 @@ use Rattle.centre.proofs.operations.check_outcome.Goals as goal
 
 pub returns-then-is_wrong : goal.returns-then-is_wrong
 unfolding outcome_early when◌then◌else◌
-returns-then-is_wrong c = (rw (sym c.is_wrong.ensures ∙ c.if-is_wrong.true), λ e. absurd (omega arith))
+returns-then-is_wrong c = record { early = rw (sym c.is_wrong.ensures ∙ c.if-is_wrong.true); fit = tt }
 
 pub returns-then-not-is_sent_time : goal.returns-then-not-is_sent_time
 unfolding outcome_early when◌then◌else◌
-returns-then-not-is_sent_time c = (rw (sym c.is_wrong.ensures ∙ c.if-is_wrong.false, sym c.is_sent_time.ensures ∙ c.if-not-is_sent_time.true), λ e. absurd (omega arith))
+returns-then-not-is_sent_time c = record { early = rw (sym c.is_wrong.ensures ∙ c.if-is_wrong.false, sym c.is_sent_time.ensures ∙ c.if-not-is_sent_time.true); fit = tt }
 
 pub returns : goal.returns
 unfolding outcome_early when◌then◌else◌
 returns c =
     let fits = sym c.is_wrong.ensures ∙ c.if-is_wrong.false in
-    let sent = sym c.is_sent_time.ensures ∙ c.if-not-is_sent_time.false in (
-      rw (fits, sent),
-      λ e. record { book_fits = book-fits c.args.book c.args.table fits; table_fits = table_fits_lem c.args.book c.args.table fits; stamp_fits = sent-length _ sent },
-    )
+    let sent = sym c.is_sent_time.ensures ∙ c.if-not-is_sent_time.false in
+    record {
+      early = rw (fits, sent);
+      fit = record { book_fits = book-fits c.args.book c.args.table fits; table_fits = table_fits_lem c.args.book c.args.table fits; stamp_fits = sent-length _ sent };
+    }

@@ -2,6 +2,10 @@
 use Rattle.open.specs.Open.{on_open}
 use Rattle.centre.proofs.take.take_open.Goals as goal
 
-pub returns : goal.returns
+pub returns-in-Err : goal.returns-in-Err
 unfolding on_open
-returns c = λ stamp table. rw (← c.on_open-fronted.ensures, c.follow-next.ensures table)
+returns-in-Err c = λ stamp table. rw (← c.in-Err.ensures, c.refused.ensures)
+
+pub returns-in-Ok : goal.returns-in-Ok
+unfolding on_open
+returns-in-Ok c = λ stamp table. rw (← c.in-Ok.ensures, c.follow.ensures table)

@@ -11,15 +11,15 @@ use Rattle.receipts.proofs.offer.offer_receipt.Goals as goal
 
 pub returns-then-not-is_account_ok : goal.returns-then-not-is_account_ok
 unfolding offered when◌then◌else◌
-returns-then-not-is_account_ok c = rw (c.refuse.ensures, ← c.is_account_ok.ensures, c.if-not-is_account_ok.true)
+returns-then-not-is_account_ok c = rw (← c.is_account_ok.ensures, c.if-not-is_account_ok.true)
 
 pub returns-then-receiver-is_some : goal.returns-then-receiver-is_some
 unfolding offered when◌then◌else◌
-returns-then-receiver-is_some c = rw (c.refuse-then-receiver-is_some.ensures, ← c.is_account_ok.ensures, c.if-not-is_account_ok.false, ← c.is_some.ensures, c.if-receiver-is_some.true)
+returns-then-receiver-is_some c = rw (← c.is_account_ok.ensures, c.if-not-is_account_ok.false, ← c.is_some.ensures, c.if-receiver-is_some.true)
 
 pub returns-in_default : goal.returns-in_default
 unfolding offered when◌then◌else◌
-returns-in_default c = rw (c.refuse-in_default.ensures, ← c.is_account_ok.ensures, c.if-not-is_account_ok.false, ← c.is_some.ensures, c.if-receiver-is_some.false, sym c.find_owed-found.ensures.0 ∙ c.in_default.is)
+returns-in_default c = rw (← c.is_account_ok.ensures, c.if-not-is_account_ok.false, ← c.is_some.ensures, c.if-receiver-is_some.false, sym c.find_owed-found.ensures.0 ∙ c.in_default.is)
 
 pub record_at-r-requires : goal.record_at-r-requires
 record_at-r-requires c = let b : c.in-At.k < 16 = subst OnePlace c.in-At.is c.find_owed-found.ensures.1 in omega arith
