@@ -133,19 +133,14 @@ fn take_bound(
         Err(refusal) => Handed::refused(refusal, state),
         Ok(handled) => {
             let acted = handled.acted;
+            let kept = handled.receipt;
+            let next = conclude(state, session, account, acted.ends, kept, acted.last);
             Handed {
                 outcome: Ok(Taken {
                     consumed: acted.consumed,
                     written: acted.written,
                 }),
-                state: conclude(
-                    state,
-                    session,
-                    account,
-                    acted.ends,
-                    handled.receipt,
-                    acted.last,
-                ),
+                state: next,
             }
         }
     }

@@ -49,8 +49,8 @@ returns-in-Ok c = let g = c.args in
     let b = c.on_bound-came in
     let back = b.new.part in
     let h = c.in-Ok.handled in
-    let r : Handed Taken = record { outcome = Ok (record { consumed = h.acted.consumed; written = h.acted.written }); state = c.conclude.result } in
+    let r : Handed Taken = record { outcome = Ok (record { consumed = h.acted.consumed; written = h.acted.written }); state = c.conclude-next.result } in
     let e = rw (add-sub_cancel_left at 4096) at c.in-Ok.ensures in
     let n : length back ≡ 4096 = (rw (add-sub_cancel_left at 4096) at b.auto.part) ∙ part_length at 4096 t (omega (arith, c.requires.platform.0.1, c.if-account-ge-ACCOUNTS.false)) in
     ap (λ (l : List ℕ). takes r l b.new.space) (part-back t at 4096 back n (omega (arith, c.requires.platform.0.1, c.if-account-ge-ACCOUNTS.false)))
-    ∙ rw (lt-ltb _ _ c.if-account-ge-ACCOUNTS.false, c.requires.platform.1.1, ← (held c.record_of-record.ensures.0), receipts-at g.state g.a g.session, ← c.receipt_for-receipt.ensures, ← e, concluded-put g.state t g.session g.a h.acted.ends (owning back h.acted.last (set (receipts_of g.state g.a) g.session h.receipt)), c.conclude.ensures)
+    ∙ rw (lt-ltb _ _ c.if-account-ge-ACCOUNTS.false, c.requires.platform.1.1, ← (held c.record_of-record.ensures.0), receipts-at g.state g.a g.session, ← c.receipt_for-receipt.ensures, ← e, concluded-put g.state t g.session g.a h.acted.ends (owning back h.acted.last (set (receipts_of g.state g.a) g.session h.receipt)), c.conclude-next.ensures)
