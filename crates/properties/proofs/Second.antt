@@ -16,7 +16,8 @@ use Rattle.properties.specs.Property2.{Picked, Property2}
 use Rattle.properties.proofs.Back.{pick-back, SameStored, stored_back}
 use Rattle.properties.proofs.OnCases.{on-cases}
 use Rattle.properties.proofs.OfCases.{of-cases, of-refusal}
-use Rattle.properties.proofs.Unique.{one-moved, one-taken, one-delivered, one-reported, one-gave, one-offers, one-answers, one-acts, one-handles, one_placed}
+use Rattle.properties.proofs.Unique.{one-moved, one-handed, one-taken, one-delivered, one-reported, one-gave, one-offers, one-answers, one-fronts, one-acts, one-handles, one-comes, one_placed}
+use Rattle.session.proofs.RefusalLaws.{one-outcome}
 
 picking : (book : List ℕ) (w : World) (a : ℕ) → (let r = step centre book w (of a pick) in (r.world ≡ w) × Picked (part_of a w.table) r.answer)
 unfolding act
@@ -41,9 +42,11 @@ property2 =
       picking = picking;
       delivering = receiving;
       moved = one-moved;
+      handed = one-handed;
       taken = one-taken;
       delivered = one-delivered;
       reported = one-reported;
+      numbered = one-outcome;
       wrote = λ n n' s s' e. (ap (λ (w : Written). w.count) e, ap (λ (w : Written). w.space) e);
       gave = one-gave;
       changed = λ n n' p p' e. (ap (λ (c : Changed). c.status) e, ap (λ (c : Changed). c.part) e);
@@ -52,7 +55,9 @@ property2 =
       offers = one-offers;
       settling = λ r r' p p' e. (ap (λ (c : Settled). c.receipt) e, ap (λ (c : Settled). c.part) e);
       answers = one-answers;
+      fronts = one-fronts;
       acts = one-acts;
       handles = one-handles;
+      comes = one-comes;
       placed = one_placed;
     }

@@ -4,10 +4,10 @@
 -- step's answer; opening and closing say what is `step` by the lines here. Here is also that a pick changes nothing and a receipt no stored message,
 -- and that such contracts allow one result only, so that the definition alone decides; of a contract that names its result, `r ≡ ..`, that goes
 -- without saying, and of a returned part it is `one-part` of crate octets.
-use Rattle.std.specs.Prelude.{ℕ, ◌<◌, ◌≡◌, List, replicate}
+use Rattle.std.specs.Prelude.{ℕ, ◌<◌, ◌≡◌, List, replicate, Option, Result}
 use Rattle.records.specs.Layout.{places}
 use Rattle.store.specs.Places.{record_at}
-use Rattle.session.specs.State.{opened, closed}
+use Rattle.session.specs.State.{opened, closed, moved_to}
 use Rattle.session.specs.State as S
 use Rattle.session.specs.declared.State.{State}
 use Rattle.isolation.specs.Platform.{table_size, part_of, World, fresh, opens, closes, on, of}
@@ -17,13 +17,16 @@ use Rattle.answers.specs.Reply.{wrote}
 use Rattle.submit.specs.Submit.{gave}
 use Rattle.account.specs.Cancel.{changed}
 use Rattle.account.specs.Outcome.{told}
-use Rattle.open.specs.Open.{answers}
+use Rattle.open.specs.Open.{answers, fronts}
 use Rattle.receipts.specs.Offer.{offers}
 use Rattle.receipts.specs.Settle.{settling}
-use Rattle.bound.specs.Bound.{acts, handles}
+use Rattle.bound.specs.Bound.{acts, handles, comes_to}
 use Rattle.centre.specs.Operations.{noting}
 use Rattle.centre.specs.Pick.{placed}
-use Rattle.centre.specs.declared.operations.Placed.{Placed}
+use Rattle.session.specs.declared.refusal.Refusal.{Refusal}
+use Rattle.session.specs.declared.Handed.{Handed}
+use Rattle.session.specs.declared.Receipt.{Receipt}
+use Rattle.session.specs.Refusal.{outcome_number}
 
 -- of an account with this part, a pick answers a number other than 0 alone, or one of the sixteen places and the record that stands there
 abbrev pub Picked : List ℕ → Answer → Type 0
@@ -54,19 +57,23 @@ pub record Property2 : Type 0 where
       (r.world.table ≡ w.table) × (r.world.state.lasts ≡ w.state.lasts))
   -- one result only, of the public operations: opening and closing, taken octets, a receipt, an outcome
   pub moved : Tells moves
+  pub handed : (h h' : Handed Unit) → moved_to h ≡ moved_to h' → h ≡ h'
   pub taken : TellsOfThree takes
   pub delivered : TellsOfThree delivers
   pub reported : TellsOfThree reports
+  pub numbered : (o o' : Result Unit Refusal) → outcome_number o ≡ outcome_number o' → o ≡ o'
   -- and inside: replies, submissions, other changes of an account, outcomes, receipts written and settled, octets on an open and on a bound session
   pub wrote : Tells wrote
   pub gave : Tells gave
   pub changed : Tells changed
   pub told : Tells told
   pub noted : Tells noting
-  pub offers : Tells offers
+  pub offers : (receipt : Option Receipt) → Tells (offers receipt)
   pub settling : Tells settling
   pub answers : Tells answers
+  pub fronts : Tells fronts
   pub acts : TellsOfThree acts
   pub handles : TellsOfThree handles
+  pub comes : (last : ℕ) (receipt : Option Receipt) → TellsOfThree (comes_to last receipt)
   -- which place is picked
-  pub placed : (part : List ℕ) (r r' : Placed) → placed r part ≡ placed r' part → r ≡ r'
+  pub placed : (part : List ℕ) (r r' : Result ℕ Refusal) → placed r part ≡ placed r' part → r ≡ r'
