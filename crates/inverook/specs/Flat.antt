@@ -1,7 +1,7 @@
 -- The state as C holds it, and the state that it stands for.
 use Rattle.std.specs.Prelude.{ℕ, List, [], ◌∷◌, map, get_or, eqb, not, ◌&&◌, Option, None}
 use Rattle.octets.specs.Choice.{when◌then◌else◌}
-use Rattle.session.specs.State.{closed_session, entry_at, is_receiver, held_id, held_sequence, outstanding}
+use Rattle.session.specs.State.{is_receiver, held_id, held_sequence, outstanding}
 use Rattle.session.specs.declared.Entry.{Entry}
 use Rattle.session.specs.declared.Entry.TheVariants.{Closed, Open, Transmitter, Receiver, Ended}
 use Rattle.session.specs.declared.Receipt.{Receipt}
@@ -50,30 +50,17 @@ entry_account (Transmitter a) = a
 entry_account (Receiver a) = a
 entry_account Ended = 0
 
--- session i in numbers; a receipt is told of a receiver alone
-unfoldable pub receipt_at : State → ℕ → Option Receipt
-receipt_at st i =
-    let x = get_or st.sessions i closed_session in
-    when is_receiver x.entry then x.receipt else None
+-- a receipt is told of a receiver alone
+unfoldable pub told : Session → Option Receipt
+told x = when is_receiver x.entry then x.receipt else None
 
-unfoldable pub kind_at : State → ℕ → ℕ
-kind_at st i = entry_kind (entry_at st i)
-
-unfoldable pub account_at : State → ℕ → ℕ
-account_at st i = entry_account (entry_at st i)
-
-unfoldable pub id_at : State → ℕ → ℕ
-id_at st i = held_id (receipt_at st i)
-
-unfoldable pub sequence_at : State → ℕ → ℕ
-sequence_at st i = held_sequence (receipt_at st i)
-
+-- session by session
 unfoldable pub flat_of : State → InverookState
 flat_of st =
     record {
-      kinds = map (kind_at st) sessions;
-      accounts = map (account_at st) sessions;
+      kinds = map (λ (x : Session). entry_kind x.entry) st.sessions;
+      accounts = map (λ (x : Session). entry_account x.entry) st.sessions;
       lasts = st.lasts;
-      receipts = map (id_at st) sessions;
-      sequences = map (sequence_at st) sessions;
+      receipts = map (λ (x : Session). held_id (told x)) st.sessions;
+      sequences = map (λ (x : Session). held_sequence (told x)) st.sessions;
     }

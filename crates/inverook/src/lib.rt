@@ -8,13 +8,14 @@ ghost use Rattle.isolation.specs.Platform.{Step};
 ghost use Rattle.centre.specs.Centre.{step, world, reports};
 ghost use Rattle.answers.specs.Reply.{wrote};
 ghost use Rattle.answers.specs.Answer.{Call, Question, number_of, picked_record};
-ghost use Rattle.inverook.specs.Flat.{state_of};
+ghost use Rattle.inverook.specs.Flat.{state_of, flat_of};
 ghost use Rattle.inverook.specs.Calls.{moved, taken, delivered, flatly, picked_at, copied_to};
 
 use centre::operations;
 use centre::operations::Placed;
 use flat::InverookState;
 use records::layout;
+use session::{Moved, State};
 
 // inverook_moved of the header.
 #[repr(C)]
@@ -22,6 +23,17 @@ use records::layout;
 pub struct InverookMoved {
     pub number: u8,
     pub state: InverookState,
+}
+
+impl From<Moved> for InverookMoved {
+    ghost from_gives = { λ m given. given ≡ record { number = m.number; state = flat_of m.state } };
+
+    fn from(moved: Moved) -> InverookMoved {
+        InverookMoved {
+            number: moved.number,
+            state: InverookState::from(moved.state),
+        }
+    }
 }
 
 // inverook_taken of the header.
@@ -47,28 +59,14 @@ pub struct InverookDelivered {
 pub extern "C" fn inverook_open(state: InverookState, session: usize) -> InverookMoved
     ensures { (book table : List ℕ) → moved result table ≡ flatly (step book (world (state_of state) table) (Step.opens session)) }
 {
-    let held = flat::state_of(state);
-    let opened = held.open(session);
-    let next = opened.state;
-    let given = flat::flat_of(next);
-    InverookMoved {
-        number: opened.number,
-        state: given,
-    }
+    InverookMoved::from(State::from(state).open(session))
 }
 
 #[unsafe(no_mangle)]
 pub extern "C" fn inverook_close(state: InverookState, session: usize) -> InverookMoved
     ensures { (book table : List ℕ) → moved result table ≡ flatly (step book (world (state_of state) table) (Step.closes session)) }
 {
-    let held = flat::state_of(state);
-    let closed = held.close(session);
-    let next = closed.state;
-    let given = flat::flat_of(next);
-    InverookMoved {
-        number: closed.number,
-        state: given,
-    }
+    InverookMoved::from(State::from(state).close(session))
 }
 
 #[unsafe(no_mangle)]
@@ -83,15 +81,20 @@ pub extern "C" fn inverook_take(
 ) -> InverookTaken
     ensures { taken result table.new space.new ≡ flatly (step book.now (world (state_of state) table.old) (Step.on session (Call.taking (record { octets = octets.entry.now; stamp = stamp.now; space = space.old })))) }
 {
-    let held = flat::state_of(state);
-    let took = centre::take::take(book, table, held, session, octets, stamp, space);
-    let next = took.state;
-    let given = flat::flat_of(next);
+    let took = centre::take::take(
+        book,
+        table,
+        State::from(state),
+        session,
+        octets,
+        stamp,
+        space,
+    );
     InverookTaken {
         number: took.number,
         consumed: took.consumed,
         written: took.written,
-        state: given,
+        state: InverookState::from(took.state),
     }
 }
 
@@ -106,14 +109,11 @@ pub extern "C" fn inverook_deliver(
 ) -> InverookDelivered
     ensures { delivered result table.now space.new ≡ flatly (step book.now (world (state_of state) table.now) (Step.on session (Call.delivering (record { sequence = sequence; space = space.old })))) }
 {
-    let held = flat::state_of(state);
-    let gave = centre::deliver::deliver(book, table, held, session, sequence, space);
-    let next = gave.state;
-    let given = flat::flat_of(next);
+    let gave = centre::deliver::deliver(book, table, State::from(state), session, sequence, space);
     InverookDelivered {
         number: gave.number,
         written: gave.written,
-        state: given,
+        state: InverookState::from(gave.state),
     }
 }
 
@@ -130,8 +130,16 @@ pub extern "C" fn inverook_outcome(
 ) -> u8
     ensures { reports result (state_of state) table.new ≡ step book.now (world (state_of state) table.old) (Step.of account (Question.outcome (record { stamp = stamp.entry.now; id = id; state = outcome; error = error }))) }
 {
-    let held = flat::state_of(state);
-    operations::outcome(book, table, held, stamp, account, id, outcome, error)
+    operations::outcome(
+        book,
+        table,
+        State::from(state),
+        stamp,
+        account,
+        id,
+        outcome,
+        error,
+    )
 }
 
 #[unsafe(no_mangle)]
@@ -143,8 +151,7 @@ pub extern "C" fn inverook_pick_number(
 ) -> u8
     ensures { result ≡ number_of (step book.now (world (state_of state) table.now) (Step.of account Question.pick)).answer }
 {
-    let held = flat::state_of(state);
-    operations::pick_number(book, table, held, account)
+    operations::pick_number(book, table, State::from(state), account)
 }
 
 // Where no record is picked: one past the table's last octet.
@@ -160,8 +167,7 @@ pub extern "C" fn inverook_pick_at(
 ) -> usize
     ensures { result ≡ picked_at account (step book.now (world (state_of state) table.now) (Step.of account Question.pick)).answer }
 {
-    let held = flat::state_of(state);
-    let placed = operations::locate(book, table, held, account);
+    let placed = operations::locate(book, table, State::from(state), account);
     match placed {
         Placed::Refused(_) => NOWHERE,
         Placed::Place(k) => operations::start_of(account, k),
@@ -179,8 +185,7 @@ pub extern "C" fn inverook_pick_record(
 ) -> usize
     ensures { wrote result space.new ≡ copied_to (picked_record (step book.now (world (state_of state) table.now) (Step.of account Question.pick)).answer) space.old }
 {
-    let held = flat::state_of(state);
-    let picked = operations::pick(book, table, held, account);
+    let picked = operations::pick(book, table, State::from(state), account);
     if space.len() < picked.len() {
         return 0;
     }

@@ -1,4 +1,5 @@
--- An array's `map` with a closure that changes nothing it captured, and whose answer at x is h x, gives the list's `map h`. Assumes nothing.
+-- An array's `map`, and `array::from_fn`, with a closure that changes nothing it captured, and whose answer at x is h x: the list's `map h`, of the
+-- array's elements or of the numbers below its length. Assumes nothing.
 use mathlib.Core.Path.{◌≡◌, refl, sym, ap, subst, ◌∙◌}
 use mathlib.Core.List.{List, map}
 use Prim.Native.Nat.{ℕ, zero, suc, ◌+◌, ◌<◌}
@@ -8,7 +9,9 @@ use lib.ListN.{length, get_or}
 use lib.Seq.{ext_get_or}
 use Rattle.std.proofs.Common.{zero-add}
 use Rattle.std.specs.Fn.{Mut, Called}
-use Rattle.std.specs.Array.{IsMapOf, MapsFrom}
+use Rattle.std.specs.Array.{IsMapOf, MapsFrom, IsFromFnResult, IsFromFnResultFrom}
+use Rattle.std.specs.List.{range_with_len}
+use Rattle.std.proofs.lemmas.List.FromFn.{length-map-range_with_len, get_or-map-range_with_len}
 use Rattle.std.proofs.lemmas.List.{length-map, get_or-map}
 
 module _ {F A B : Type 0} (g : Mut F (A × Unit {0}) B) (f : F) (h : A → B) (call : (x : A) (y : B) (q : F) → Called g f (x, tt) y q → (y ≡ h x) × (q ≡ f)) where
@@ -25,3 +28,19 @@ module _ {F A B : Type 0} (g : Mut F (A × Unit {0}) B) (f : F) (h : A → B) (c
   mapped xs ys n size d e m =
       ext_get_or e ys (map h xs) (m.long ∙ sym (length-map xs h ∙ size))
       (λ i l. subst (λ (k : ℕ). get_or ys k e ≡ h (get_or xs k d)) (zero-add i) (each xs ys d e 0 n f refl m.each i (omega (arith, m.long))) ∙ sym (get_or-map h xs i d e (omega (arith, m.long))))
+
+module _ {F B : Type 0} (g : Mut F (ℕ × Unit {0}) B) (f : F) (h : ℕ → B) (n : ℕ) (call : (i : ℕ) (y : B) (q : F) → i < n → Called g f (i, tt) y q → (y ≡ h i) × (q ≡ f)) where
+  each-index : (ys : List B) (e : B) (i m : ℕ) (p : F) → p ≡ f → i + m ≡ n → IsFromFnResultFrom g p ys i m → (j : ℕ) → j < m → get_or ys (i + j) e ≡ h (i + j)
+  each-index ys e i zero p s whole r j l = absurd (omega arith)
+  each-index ys e i (suc m) p s whole r zero l =
+      let one = call i r.1 r.0 (omega arith) (subst (λ (q : F). Called g q (i, tt) r.1 r.0) s r.3) in
+      simp unary_clauses (r.2.1 e ∙ one.0)
+  each-index ys e i (suc m) p s whole r (suc j) l =
+      let one = call i r.1 r.0 (omega arith) (subst (λ (q : F). Called g q (i, tt) r.1 r.0) s r.3) in
+      subst (λ (k : ℕ). get_or ys k e ≡ h k) (omega arith) (each-index ys e (i + 1) m r.0 one.1 (omega arith) r.4 j (omega arith))
+
+  pub counted : (ys : List B) → B → IsFromFnResult g f ys n → ys ≡ map h (range_with_len 0 n)
+  counted ys e r =
+      ext_get_or e ys (map h (range_with_len 0 n)) (r.long ∙ sym (length-map-range_with_len h 0 n))
+      (λ i l. subst (λ (k : ℕ). get_or ys k e ≡ h k) (zero-add i) (each-index ys e 0 n f refl (zero-add n) r.each i (omega (arith, r.long)))
+      ∙ sym (get_or-map-range_with_len h 0 n i i e (omega (arith, r.long)) (zero-add i)))

@@ -4,4 +4,4 @@ use Rattle.inverook.proofs.inverook_open.Goals as goal
 
 pub returns : goal.returns
 unfolding step
-returns c book table = simp (← c.state_of-held.ensures, ← c.open-opened.ensures, ← c.flat_of-given.ensures)
+returns c book table = rw (c.from-2.ensures, c.open.ensures, c.from.ensures)

@@ -6,8 +6,8 @@ use Rattle.inverook.proofs.inverook_pick_record.Goals as goal
 
 pub returns-then-space-picked : goal.returns-then-space-picked
 unfolding copied_to when◌then◌else◌
-returns-then-space-picked c = rw (← c.state_of-held.ensures, ← c.pick-picked.ensures.1, lt-ltb _ _ c.if-space-picked.true)
+returns-then-space-picked c = rw (← c.from.ensures, ← c.pick-picked.ensures.1, lt-ltb _ _ c.if-space-picked.true)
 
 pub returns : goal.returns
 unfolding copied_to when◌then◌else◌
-returns c = rw (← c.state_of-held.ensures, ← c.pick-picked.ensures.1, le-ltb _ _ c.if-space-picked.false, c.put.ensures)
+returns c = rw (← c.from.ensures, ← c.pick-picked.ensures.1, le-ltb _ _ c.if-space-picked.false, c.put.ensures)
