@@ -1,7 +1,7 @@
 -- The state as C holds it, and the state that it stands for.
 use Rattle.std.specs.Prelude.{ℕ, List, [], ◌∷◌, map, get_or, eqb, not, ◌&&◌, Option, None}
 use Rattle.octets.specs.Choice.{when◌then◌else◌}
-use Rattle.session.specs.State.{is_receiver, held_id, held_sequence, outstanding}
+use Rattle.session.specs.State.{closed_session, entry_at, is_receiver, held_id, held_sequence, outstanding}
 use Rattle.session.specs.declared.Entry.{Entry}
 use Rattle.session.specs.declared.Entry.TheVariants.{Closed, Open, Transmitter, Receiver, Ended}
 use Rattle.session.specs.declared.Receipt.{Receipt}
@@ -54,13 +54,25 @@ entry_account Ended = 0
 unfoldable pub told : Session → Option Receipt
 told x = when is_receiver x.entry then x.receipt else None
 
--- session by session
+-- session i in numbers
+abbrev pub kind_at : State → ℕ → ℕ
+kind_at st i = entry_kind (entry_at st i)
+
+abbrev pub account_at : State → ℕ → ℕ
+account_at st i = entry_account (entry_at st i)
+
+abbrev pub id_at : State → ℕ → ℕ
+id_at st i = held_id (told (get_or st.sessions i closed_session))
+
+abbrev pub sequence_at : State → ℕ → ℕ
+sequence_at st i = held_sequence (told (get_or st.sessions i closed_session))
+
 unfoldable pub flat_of : State → InverookState
 flat_of st =
     record {
-      kinds = map (λ (x : Session). entry_kind x.entry) st.sessions;
-      accounts = map (λ (x : Session). entry_account x.entry) st.sessions;
+      kinds = map (kind_at st) sessions;
+      accounts = map (account_at st) sessions;
       lasts = st.lasts;
-      receipts = map (λ (x : Session). held_id (told x)) st.sessions;
-      sequences = map (λ (x : Session). held_sequence (told x)) st.sessions;
+      receipts = map (id_at st) sessions;
+      sequences = map (sequence_at st) sessions;
     }

@@ -5,6 +5,7 @@ ghost use Rattle.inverook.specs.Flat.{entry_of, receipt_of, session_at, state_of
 
 use records::layout;
 use session::{Entry, Receipt, Session, State};
+use std::array;
 
 // inverook_state of include/inverook.h.
 #[repr(C)]
@@ -58,7 +59,7 @@ impl From<InverookState> for State {
 
     fn from(flat: InverookState) -> State {
         State {
-            sessions: std::array::from_fn(|i| flat.session(i)),
+            sessions: array::from_fn(|i| flat.session(i)),
             lasts: flat.lasts,
         }
     }
@@ -101,11 +102,11 @@ impl From<State> for InverookState {
     fn from(state: State) -> InverookState {
         let State { sessions, lasts } = state;
         InverookState {
-            kinds: sessions.map(|x| kind_of(x.entry)),
-            accounts: sessions.map(|x| account_of(x.entry)),
+            kinds: array::from_fn(|i| kind_of(sessions[i].entry)),
+            accounts: array::from_fn(|i| account_of(sessions[i].entry)),
             lasts,
-            receipts: sessions.map(|x| session::held_id(told(x))),
-            sequences: sessions.map(|x| session::held_sequence(told(x))),
+            receipts: array::from_fn(|i| session::held_id(told(sessions[i]))),
+            sequences: array::from_fn(|i| session::held_sequence(told(sessions[i]))),
         }
     }
 }
