@@ -5,17 +5,18 @@ mod flat;
 
 ghost use Rattle.std.specs.Prelude.{◌≡◌, ℕ, List};
 ghost use Rattle.isolation.specs.Platform.{Step};
-ghost use Rattle.centre.specs.Centre.{step, world, reports};
+ghost use Rattle.session.specs.Refusal.{outcome_number};
+ghost use Rattle.centre.specs.Centre.{step, world, takes, delivers, reports};
 ghost use Rattle.answers.specs.Reply.{wrote};
 ghost use Rattle.answers.specs.Answer.{Call, Question, number_of, picked_record};
 ghost use Rattle.inverook.specs.Flat.{state_of, flat_of};
 ghost use Rattle.inverook.specs.Calls.{moved, taken, delivered, flatly, picked_at, copied_to};
 
 use centre::operations;
-use centre::operations::Placed;
+use centre::take::Taken;
 use flat::InverookState;
 use records::layout;
-use session::{Moved, State};
+use session::{Handed, State, refusal};
 
 // inverook_moved of the header.
 #[repr(C)]
@@ -25,13 +26,13 @@ pub struct InverookMoved {
     pub state: InverookState,
 }
 
-impl From<Moved> for InverookMoved {
-    ghost from_gives = { λ m given. given ≡ record { number = m.number; state = flat_of m.state } };
+impl From<Handed<()>> for InverookMoved {
+    ghost from_gives = { λ h given. given ≡ record { number = outcome_number h.outcome; state = flat_of h.state } };
 
-    fn from(moved: Moved) -> InverookMoved {
+    fn from(handed: Handed<()>) -> InverookMoved {
         InverookMoved {
-            number: moved.number,
-            state: InverookState::from(moved.state),
+            number: refusal::number_of(handed.outcome),
+            state: InverookState::from(handed.state),
         }
     }
 }
@@ -46,6 +47,28 @@ pub struct InverookTaken {
     pub state: InverookState,
 }
 
+impl From<Handed<Taken>> for InverookTaken {
+    ghost from_gives = { λ h given. (table space : List ℕ) → taken given table space ≡ flatly (takes h table space) };
+
+    fn from(handed: Handed<Taken>) -> InverookTaken {
+        let state = InverookState::from(handed.state);
+        match handed.outcome {
+            Ok(taken) => InverookTaken {
+                number: 0,
+                consumed: taken.consumed,
+                written: taken.written,
+                state,
+            },
+            Err(refusal) => InverookTaken {
+                number: u8::from(refusal),
+                consumed: 0,
+                written: 0,
+                state,
+            },
+        }
+    }
+}
+
 // inverook_delivered of the header.
 #[repr(C)]
 #[derive(Clone, Copy)]
@@ -53,6 +76,18 @@ pub struct InverookDelivered {
     pub number: u8,
     pub written: usize,
     pub state: InverookState,
+}
+
+impl From<Handed<usize>> for InverookDelivered {
+    ghost from_gives = { λ h given. (table space : List ℕ) → delivered given table space ≡ flatly (delivers h table space) };
+
+    fn from(handed: Handed<usize>) -> InverookDelivered {
+        InverookDelivered {
+            number: refusal::number_of(handed.outcome),
+            written: handed.outcome.unwrap_or(0),
+            state: InverookState::from(handed.state),
+        }
+    }
 }
 
 #[unsafe(no_mangle)]
@@ -81,7 +116,7 @@ pub extern "C" fn inverook_take(
 ) -> InverookTaken
     ensures { taken result table.new space.new ≡ flatly (step book.now (world (state_of state) table.old) (Step.on session (Call.taking (record { octets = octets.entry.now; stamp = stamp.now; space = space.old })))) }
 {
-    let took = centre::take::take(
+    InverookTaken::from(centre::take::take(
         book,
         table,
         State::from(state),
@@ -89,13 +124,7 @@ pub extern "C" fn inverook_take(
         octets,
         stamp,
         space,
-    );
-    InverookTaken {
-        number: took.number,
-        consumed: took.consumed,
-        written: took.written,
-        state: InverookState::from(took.state),
-    }
+    ))
 }
 
 #[unsafe(no_mangle)]
@@ -109,12 +138,8 @@ pub extern "C" fn inverook_deliver(
 ) -> InverookDelivered
     ensures { delivered result table.now space.new ≡ flatly (step book.now (world (state_of state) table.now) (Step.on session (Call.delivering (record { sequence = sequence; space = space.old })))) }
 {
-    let gave = centre::deliver::deliver(book, table, State::from(state), session, sequence, space);
-    InverookDelivered {
-        number: gave.number,
-        written: gave.written,
-        state: InverookState::from(gave.state),
-    }
+    let state = State::from(state);
+    InverookDelivered::from(centre::deliver::deliver(book, table, state, session, sequence, space))
 }
 
 #[unsafe(no_mangle)]
@@ -130,16 +155,9 @@ pub extern "C" fn inverook_outcome(
 ) -> u8
     ensures { reports result (state_of state) table.new ≡ step book.now (world (state_of state) table.old) (Step.of account (Question.outcome (record { stamp = stamp.entry.now; id = id; state = outcome; error = error }))) }
 {
-    operations::outcome(
-        book,
-        table,
-        State::from(state),
-        stamp,
-        account,
-        id,
-        outcome,
-        error,
-    )
+    let state = State::from(state);
+    let told = operations::outcome(book, table, state, stamp, account, id, outcome, error);
+    refusal::number_of(told)
 }
 
 #[unsafe(no_mangle)]
@@ -167,10 +185,9 @@ pub extern "C" fn inverook_pick_at(
 ) -> usize
     ensures { result ≡ picked_at account (step book.now (world (state_of state) table.now) (Step.of account Question.pick)).answer }
 {
-    let placed = operations::locate(book, table, State::from(state), account);
-    match placed {
-        Placed::Refused(_) => NOWHERE,
-        Placed::Place(k) => operations::start_of(account, k),
+    match operations::locate(book, table, State::from(state), account) {
+        Ok(k) => operations::start_of(account, k),
+        Err(_) => NOWHERE,
     }
 }
 

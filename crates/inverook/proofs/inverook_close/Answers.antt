@@ -4,4 +4,4 @@ use Rattle.inverook.proofs.inverook_close.Goals as goal
 
 pub returns : goal.returns
 unfolding step
-returns c book table = rw (c.from-2.ensures, c.close.ensures, c.from.ensures)
+returns c book table = rw (c.from-2.ensures, ← c.from.ensures, ← c.close.ensures)

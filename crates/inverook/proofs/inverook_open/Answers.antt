@@ -4,4 +4,4 @@ use Rattle.inverook.proofs.inverook_open.Goals as goal
 
 pub returns : goal.returns
 unfolding step
-returns c book table = rw (c.from-2.ensures, c.open.ensures, c.from.ensures)
+returns c book table = rw (c.from-2.ensures, ← c.from.ensures, ← c.open.ensures)
