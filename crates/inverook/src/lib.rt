@@ -81,11 +81,11 @@ pub struct InverookDelivered {
 impl From<Handed<usize>> for InverookDelivered {
     ghost from_gives = { λ h given. (table space : List ℕ) → delivered given table space ≡ flatly (delivers h table space) };
 
-    fn from(handed: Handed<usize>) -> InverookDelivered {
+    fn from(gave: Handed<usize>) -> InverookDelivered {
         InverookDelivered {
-            number: refusal::number_of(handed.outcome),
-            written: handed.outcome.unwrap_or(0),
-            state: InverookState::from(handed.state),
+            number: refusal::number_of(gave.outcome),
+            written: gave.outcome.unwrap_or(0),
+            state: InverookState::from(gave.state),
         }
     }
 }
@@ -116,15 +116,9 @@ pub extern "C" fn inverook_take(
 ) -> InverookTaken
     ensures { taken result table.new space.new ≡ flatly (step book.now (world (state_of state) table.old) (Step.on session (Call.taking (record { octets = octets.entry.now; stamp = stamp.now; space = space.old })))) }
 {
-    InverookTaken::from(centre::take::take(
-        book,
-        table,
-        State::from(state),
-        session,
-        octets,
-        stamp,
-        space,
-    ))
+    let state = State::from(state);
+    let took = centre::take::take(book, table, state, session, octets, stamp, space);
+    InverookTaken::from(took)
 }
 
 #[unsafe(no_mangle)]
@@ -138,8 +132,8 @@ pub extern "C" fn inverook_deliver(
 ) -> InverookDelivered
     ensures { delivered result table.now space.new ≡ flatly (step book.now (world (state_of state) table.now) (Step.on session (Call.delivering (record { sequence = sequence; space = space.old })))) }
 {
-    let state = State::from(state);
-    InverookDelivered::from(centre::deliver::deliver(book, table, state, session, sequence, space))
+    let gave = centre::deliver::deliver(book, table, State::from(state), session, sequence, space);
+    InverookDelivered::from(gave)
 }
 
 #[unsafe(no_mangle)]
