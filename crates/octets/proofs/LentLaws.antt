@@ -6,8 +6,8 @@ use Prim.Native.Nat.{ℕ, ◌+◌, ◌-◌, ◌≤◌, min}
 use native.Mathlib.Omega.{arith}
 use lib.ListN.{length, take, drop, length-take, length-drop}
 use denote.Ref.{Bor}
-use Rattle.octets.specs.Lent.{Lent, lent, lent_from, lent_part}
-use Rattle.octets.proofs.StretchLaws.{part_cut, drop-cut, drop_past, part-part}
+use Rattle.octets.specs.Lent.{Lent, lent, lent_part}
+use Rattle.octets.proofs.StretchLaws.{part_cut, part-part}
 
 pub held : {s t : Lent} → s ≡ t → s.octets ≡ t.octets
 held e = ap (λ (x : Lent). x.octets) e
@@ -26,18 +26,10 @@ moved by xs s = record { place = (s.place.0, by + s.place.1); octets = xs }
 moved-is : (s : Lent) {n m : ℕ} {xs ys : List ℕ} → n ≡ m → xs ≡ ys → moved n xs s ≡ moved m ys s
 moved-is s e f = rw (e, f)
 
--- ---- as the borrow checker has them: `&s[at..at + n]`, `&s[at..]`, and `&s[s.len()..]` where `at` is beyond the end
+-- ---- `&s[at..at + n]` as the borrow checker has it
 
 pub lent_cut : (s : Lent) (at n : ℕ) → at ≤ length s.octets → moved at (take (at + n - at) (drop at s.octets)) s ≡ lent_part at n s
 lent_cut s at n h = moved-is s (omega arith) (part_cut at n s.octets)
-
-pub lent-from : (s : Lent) (at : ℕ) → at ≤ length s.octets
-    → moved at (take (length s.octets - at) (drop at s.octets)) s ≡ lent_from at s
-lent-from s at h = moved-is s (omega arith) (drop-cut at s.octets)
-
-pub lent-end : (s : Lent) (at : ℕ) → length s.octets ≤ at
-    → moved (length s.octets) (take (length s.octets - length s.octets) (drop (length s.octets) s.octets)) s ≡ lent_from at s
-lent-end s at h = moved-is s (omega arith) (drop_past at s.octets h)
 
 -- ---- a part of a part is a part, and a part lies inside what was lent
 

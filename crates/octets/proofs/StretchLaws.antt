@@ -7,9 +7,13 @@ use native.Mathlib.Omega.{arith}
 use native.Mathlib.Nat.{add-sub_cancel_left, zero-add, suc-add, sub-zero, zero-sub, suc-sub-suc}
 use native.Mathlib.Numerals.{add-one}
 use lib.ListN.{length, take, drop, get_or, set, replicate, length-take, length-drop, drop_of_length-le}
-use lib.Seq.{drop-cons, take-nil, take_all, take-take, drop-drop, drop-length}
+use lib.Seq.{drop-cons, take-nil, take-take, drop-drop}
 use lib.Dec.{eqb}
-use borrow.Author.Tests.{eqb-true, eq-eqb}
+use lib.Pointwise.{pointwise, bytes_decides}
+use Rattle.std.proofs.lemmas.List.{take_rest}
+use Rattle.std.specs.Cmp.Lexicographic.{unequal}
+pub use Rattle.std.proofs.Math.Bool.{and_assoc, or_assoc, and-true, and-false, or-false}
+pub use Rattle.std.proofs.lemmas.Bool.{and_from as and_both}
 use Rattle.octets.specs.Choice.{when◌then◌else◌}
 use Rattle.octets.specs.Stretch.{same, every, zeros, among, part}
 
@@ -22,21 +26,6 @@ and_left false b h = h
 pub and_right : (a b : Bool) → (a && b) ≡ true → b ≡ true
 and_right true b h = h
 and_right false b h = absurd (false≢true h)
-
-pub and_both : (a b : Bool) → a ≡ true → b ≡ true → (a && b) ≡ true
-and_both a b p q = rw (p, q)
-
-pub and_assoc : (a b c : Bool) → ((a && b) && c) ≡ (a && (b && c))
-and_assoc true b c = refl
-and_assoc false b c = refl
-
-pub and-true : (a : Bool) → (a && true) ≡ a
-and-true true = refl
-and-true false = refl
-
-pub and-false : (a : Bool) → (a && false) ≡ false
-and-false true = refl
-and-false false = refl
 
 -- two tests, each of which holds where the other does
 pub both_ways : (a b : Bool) → (a ≡ true → b ≡ true) → (b ≡ true → a ≡ true) → a ≡ b
@@ -53,14 +42,6 @@ or_left false b h = refl
 pub or_right : (a b : Bool) → (a || b) ≡ false → b ≡ false
 or_right true b h = absurd (false≢true (sym h))
 or_right false b h = h
-
-pub or_assoc : (a b c : Bool) → ((a || b) || c) ≡ (a || (b || c))
-or_assoc true b c = refl
-or_assoc false b c = refl
-
-pub or-false : (a : Bool) → (a || false) ≡ a
-or-false true = refl
-or-false false = refl
 
 -- ---- a choice, by cases on its test
 
@@ -131,39 +112,23 @@ among-end n so xs i h = rw (drop_of_length-le xs {i = i} h) (or-false so)
 
 -- ---- same
 
-pub same_turn : (so : Bool) (a b : List ℕ) (i : ℕ) → i < length a → i < length b
-    → (so && same (drop i a) (drop i b)) ≡ ((so && eqb (get_or a i 0) (get_or b i 0)) && same (drop (i + 1) a) (drop (i + 1) b))
+-- `==` of slices
+pub same-pointwise : (a b : List ℕ) → same a b ≡ pointwise eqb a b
 unfolding same
-same_turn so a b i h k =
-    rw (drop-cons a i 0 h, drop-cons b i 0 k, add-one i)
-    (sym (and_assoc so (eqb (get_or a i 0) (get_or b i 0)) (same (drop (suc i) a) (drop (suc i) b))))
-
-pub same_end : (so : Bool) (a b : List ℕ) (i : ℕ) → length a ≤ i → length b ≤ i → (so && same (drop i a) (drop i b)) ≡ so
-unfolding same
-same_end so a b i h k = rw (drop_of_length-le a {i = i} h, drop_of_length-le b {i = i} k) (and-true so)
-
-pub same-lengths : (a b : List ℕ) → (length a ≡ length b → ⊥) → same a b ≡ false
-unfolding same
-same-lengths [] [] ne = absurd (ne refl)
-same-lengths [] (y ∷ ys) ne = refl
-same-lengths (x ∷ xs) [] ne = refl
-same-lengths (x ∷ xs) (y ∷ ys) ne = rw (same-lengths xs ys (λ e. ne (ap suc e))) (and-false (eqb x y))
+same-pointwise [] [] = refl
+same-pointwise [] (y ∷ ys) = refl
+same-pointwise (x ∷ xs) [] = refl
+same-pointwise (x ∷ xs) (y ∷ ys) = ap (λ (t : Bool). eqb x y && t) (same-pointwise xs ys)
 
 -- `same` is equality
 pub same-equal : (a b : List ℕ) → same a b ≡ true → a ≡ b
-unfolding same
-same-equal [] [] h = refl
-same-equal [] (y ∷ ys) h = absurd (false≢true h)
-same-equal (x ∷ xs) [] h = absurd (false≢true h)
-same-equal (x ∷ xs) (y ∷ ys) h =
-    let first = eqb-true x y (and_left (eqb x y) (same xs ys) h) in
-    let others = same-equal xs ys (and_right (eqb x y) (same xs ys) h) in
-    cc
+same-equal a b h = (bytes_decides a b).0 (sym (same-pointwise a b) ∙ h)
 
 pub same_refl : (a : List ℕ) → same a a ≡ true
-unfolding same
-same_refl [] = refl
-same_refl (x ∷ xs) = and_both (eqb x x) (same xs xs) (eq-eqb x x refl) (same_refl xs)
+same_refl a = same-pointwise a a ∙ (bytes_decides a a).1 refl
+
+pub same-lengths : (a b : List ℕ) → (length a ≡ length b → ⊥) → same a b ≡ false
+same-lengths a b ne = same-pointwise a b ∙ unequal eqb a b ne
 
 pub same-sym : (a b : List ℕ) → same a b ≡ same b a
 same-sym a b = both_ways (same a b) (same b a) (back a b) (back b a)
@@ -211,12 +176,9 @@ same-filled m n (x ∷ xs) (y ∷ ys) e =
 pub part_cut : (at n : ℕ) (xs : List ℕ) → take (at + n - at) (drop at xs) ≡ part at n xs
 part_cut at n xs = rw (add-sub_cancel_left at n)
 
--- a part `&s[at..]` as the borrow checker has it, and the empty part at the end
+-- a part `&s[at..]` as the borrow checker has it
 pub drop-cut : (at : ℕ) (xs : List ℕ) → take (length xs - at) (drop at xs) ≡ drop at xs
-drop-cut at xs = take_all (length xs - at) (drop at xs) (simp length-drop (omega arith))
-
-pub drop_past : (at : ℕ) (xs : List ℕ) → length xs ≤ at → take (length xs - length xs) (drop (length xs) xs) ≡ drop at xs
-drop_past at xs h = rw (drop-length xs, drop_of_length-le xs {i = at} h) (take-nil (length xs - length xs))
+drop-cut at xs = take_rest xs at
 
 pub part_length : (at n : ℕ) (xs : List ℕ) → at + n ≤ length xs → length (part at n xs) ≡ n
 part_length at n xs h = simp (length-take, length-drop) (omega arith)

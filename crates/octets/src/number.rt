@@ -17,7 +17,7 @@ pub fn number_at(s: &[u8], at: usize) -> u32
     requires { at + 4 ≤ length s.now }
     ensures { result ≡ number (part at 4 s.now) }
 {
-    wide(s[at]) * 16777216 + wide(s[at + 1]) * 65536 + wide(s[at + 2]) * 256 + wide(s[at + 3])
+    u32::from_be_bytes([s[at], s[at + 1], s[at + 2], s[at + 3]])
 }
 
 // Writes n into the four octets from `at` on.
@@ -25,13 +25,7 @@ pub fn put_number(target: &mut [u8], at: usize, n: u32)
     requires { at + 4 ≤ length target.old }
     ensures { target.new ≡ patch target.old at (octets4 n) }
 {
-    let octets = [
-        (n / 16777216 % 256) as u8,
-        (n / 65536 % 256) as u8,
-        (n / 256 % 256) as u8,
-        (n % 256) as u8,
-    ];
-    stretch::put(target, at, &octets);
+    stretch::put(target, at, &n.to_be_bytes());
 }
 
 // The upper-case hex digit of a number below 16.
@@ -40,9 +34,9 @@ pub fn hex_digit(d: u32) -> u8
     ensures { result ≡ hex_digit d }
 {
     if d < 10 {
-        (d + 48) as u8
+        b'0' + d as u8
     } else {
-        (d + 55) as u8
+        b'A' + (d - 10) as u8
     }
 }
 

@@ -7,35 +7,21 @@ ghost use Rattle.octets.specs.Lent.{lent, lent_from, lent_first};
 pub fn from(s: &[u8], at: usize) -> &[u8]
     ensures { lent result ≡ lent_from at (lent s.entry) }
 {
-    if at <= s.len() {
-        &s[at..]
-    } else {
-        let end = s.len();
-        &s[end..]
-    }
+    &s[at.min(s.len())..]
 }
 
 // The first n octets, or all where there are fewer.
 pub fn first(s: &[u8], n: usize) -> &[u8]
     ensures { lent result ≡ lent_first n (lent s.entry) }
 {
-    if n <= s.len() { &s[..n] } else { s }
+    &s[..n.min(s.len())]
 }
 
 // Whether two slices hold the same octets.
 pub fn is_same(a: &[u8], b: &[u8]) -> bool
     ensures { result ≡ same a.now b.now }
 {
-    if a.len() != b.len() {
-        return false;
-    }
-    let mut equal = true;
-    let mut i = 0;
-    while i < a.len() {
-        equal = equal & (a[i] == b[i]);
-        i += 1;
-    }
-    equal
+    a == b
 }
 
 // Whether every octet is zero. No early exit: the loop then runs many octets at a time.
@@ -43,10 +29,8 @@ pub fn all_zero(s: &[u8]) -> bool
     ensures { result ≡ zeros s.now }
 {
     let mut zero = true;
-    let mut i = 0;
-    while i < s.len() {
-        zero = zero & (s[i] == 0);
-        i += 1;
+    for x in s {
+        zero = zero & (*x == 0);
     }
     zero
 }
@@ -56,9 +40,5 @@ pub fn put(target: &mut [u8], at: usize, source: &[u8])
     requires { at + length source.now ≤ length target.old }
     ensures { target.new ≡ patch target.old at source.now }
 {
-    let mut i = 0;
-    while i < source.len() {
-        target[at + i] = source[i];
-        i += 1;
-    }
+    target[at..at + source.len()].copy_from_slice(source);
 }
