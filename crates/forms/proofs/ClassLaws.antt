@@ -1,35 +1,18 @@
--- Laws of `lead`: a loop that counts the octets of a class, and what the count says. Assumes nothing.
+-- Laws of `lead`: how far `position` goes, and what the count says. Assumes nothing.
 use mathlib.Core.Path.{◌≡◌, refl, sym, ap, ◌∙◌}
-use mathlib.Core.Bool.{Bool, true, false, ◌&&◌}
+use mathlib.Core.Bool.{Bool, true, false, not, cond, ◌&&◌}
 use mathlib.Core.List.{List, [], ◌∷◌, ◌++◌}
-use Prim.Native.Nat.{ℕ, zero, suc, ◌+◌, ◌≤◌, ◌<◌}
-use native.Mathlib.Nat.{add-zero, zero-add}
-use native.Mathlib.Numerals.{add-one}
+use Prim.Native.Nat.{ℕ, zero, suc, ◌+◌, ◌≤◌}
 use native.Mathlib.Omega.{arith}
-use lib.ListN.{length, drop, get_or, replicate, drop_of_length-le}
-use lib.Seq.{drop-cons}
-use lib.Dec.{eqb, leb, eqb-suc-suc, eqb-zero-suc}
-use borrow.Author.Tests.{leb-true}
+use lib.ListN.{length, replicate}
+use lib.Dec.{eqb, leb, ltb, eqb-suc-suc, eqb-zero-suc}
+use borrow.Author.Tests.{leb-true, ltb-false}
+use Rattle.std.proofs.Common.{Some, None, position, unwrap_or}
+use Rattle.std.specs.List.{prefix_len}
 use Rattle.octets.specs.Choice.{when◌then◌else◌}
 use Rattle.octets.specs.Stretch.{every}
 use Rattle.octets.proofs.StretchLaws.{and_left, and_right, if-true}
 use Rattle.forms.specs.Class.{within, lead}
-
-module _ (p : ℕ → Bool) (xs : List ℕ) (i : ℕ) where
-  pub lead-stops : i < length xs → p (get_or xs i 0) ≡ false → i + lead p (drop i xs) ≡ i
-  unfolding lead when◌then◌else◌
-  lead-stops h test = rw (drop-cons xs i 0 h, test) (add-zero i)
-
-  pub lead-goes : i < length xs → p (get_or xs i 0) ≡ true → i + lead p (drop i xs) ≡ (i + 1) + lead p (drop (i + 1) xs)
-  unfolding lead when◌then◌else◌
-  lead-goes h test = rw (drop-cons xs i 0 h, test, add-one i) (omega arith)
-
-  pub lead-end : length xs ≤ i → i + lead p (drop i xs) ≡ i
-  unfolding lead
-  lead-end h = rw (drop_of_length-le xs {i = i} h) (add-zero i)
-
-pub lead-start : (p : ℕ → Bool) (xs : List ℕ) → lead p xs ≡ 0 + lead p xs
-lead-start p xs = sym (zero-add (lead p xs))
 
 pub lead-within : (p : ℕ → Bool) (xs : List ℕ) → lead p xs ≤ length xs
 unfolding lead when◌then◌else◌
@@ -39,6 +22,27 @@ lead-within p (x ∷ xs) = by (p x) (lead-within p xs)
     by : (t : Bool) {n m : ℕ} → n ≤ m → (when t then suc n else 0) ≤ suc m
     by true h = omega arith
     by false h = omega arith
+
+-- std's count of those that don't fail, and what `position` makes of a count
+passing : (p : ℕ → Bool) (xs : List ℕ) → prefix_len (λ x. not (not (p x))) xs ≡ lead p xs
+unfolding lead when◌then◌else◌
+passing p [] = refl
+passing p (x ∷ xs) = by (p x) (passing p xs)
+  where
+    by : (t : Bool) {n m : ℕ} → n ≡ m → cond (not (not t)) (1 + n) 0 ≡ (when t then suc m else 0)
+    by true e = omega arith
+    by false e = refl
+
+clipped : (n m : ℕ) → n ≤ m → unwrap_or (cond (ltb n m) (Some n) None) m ≡ n
+clipped n m h = by (ltb n m) refl
+  where
+    by : (t : Bool) → ltb n m ≡ t → unwrap_or (cond t (Some n) None) m ≡ n
+    by true e = refl
+    by false e = omega (arith, ltb-false n m e)
+
+-- a run ends at the first element that fails, or with the list
+pub lead-position : (p : ℕ → Bool) (xs : List ℕ) → unwrap_or (position (λ x. not (p x)) xs) (length xs) ≡ lead p xs
+lead-position p xs = rw (passing p xs) (clipped (lead p xs) (length xs) (lead-within p xs))
 
 -- every element passes where the run goes to the end
 pub every-lead : (p : ℕ → Bool) (xs : List ℕ) → every p xs ≡ eqb (lead p xs) (length xs)

@@ -1,7 +1,7 @@
 // Classes of octets, and how far a run of one class goes.
-ghost use Rattle.std.specs.Prelude.{◌≡◌, ◌≤◌, length};
+ghost use Rattle.std.specs.Prelude.{◌≡◌, ◌≤◌, length, not, position};
 ghost use Rattle.octets.specs.Stretch.{every};
-ghost use Rattle.forms.specs.Class.{decimal, hexadecimal, in_class, lead};
+ghost use Rattle.forms.specs.Class.{decimal, in_class, lead};
 
 #[derive(Clone, Copy)]
 pub enum Class {
@@ -12,43 +12,38 @@ pub enum Class {
     Hexadecimal,
 }
 
+impl Class {
+    fn contains(self, x: u8) -> bool
+        ensures { result ≡ in_class self x }
+    {
+        match self {
+            Class::NotNul => x != 0,
+            Class::Ascii => x.is_ascii(),
+            Class::Space => x == b' ',
+            Class::Decimal => x.is_ascii_digit(),
+            Class::Hexadecimal => x.is_ascii_hexdigit(),
+        }
+    }
+}
+
 pub fn is_decimal(x: u8) -> bool
     ensures { result ≡ decimal x }
 {
-    (48 <= x) & (x <= 57)
+    x.is_ascii_digit()
 }
 
-fn is_hexadecimal(x: u8) -> bool
-    ensures { result ≡ hexadecimal x }
+// Where the first octet stands that isn't of the class.
+fn first_outside(s: &[u8], class: Class) -> Option<usize>
+    ensures { result ≡ position (λ x. not (in_class class x)) s.now }
 {
-    is_decimal(x) | ((65 <= x) & (x <= 70)) | ((97 <= x) & (x <= 102))
-}
-
-fn in_class(class: Class, x: u8) -> bool
-    ensures { result ≡ in_class class x }
-{
-    match class {
-        Class::NotNul => x != 0,
-        Class::Ascii => x < 128,
-        Class::Space => x == 32,
-        Class::Decimal => is_decimal(x),
-        Class::Hexadecimal => is_hexadecimal(x),
-    }
+    s.iter().position(|x| !class.contains(*x))
 }
 
 // How many octets of the class s begins with.
 pub fn lead_of(s: &[u8], class: Class) -> usize
     ensures { (result ≡ lead (in_class class) s.now) × (result ≤ length s.now) }
 {
-    let mut i = 0;
-    while i < s.len() {
-        let x = s[i];
-        if !in_class(class, x) {
-            return i;
-        }
-        i += 1;
-    }
-    i
+    first_outside(s, class).unwrap_or(s.len())
 }
 
 // Whether every octet is of the class.

@@ -31,7 +31,7 @@ pub fn after_spaces(text: &[u8]) -> &[u8]
 pub fn is_given(text: &[u8], class: Class) -> bool
     ensures { result ≡ given_all (in_class class) text.now }
 {
-    (0 < text.len()) & class::is_all(text, class)
+    !text.is_empty() & class::is_all(text, class)
 }
 
 pub fn is_formed(text: &[u8], form: Form) -> bool
@@ -41,28 +41,27 @@ pub fn is_formed(text: &[u8], form: Form) -> bool
         Form::Ascii => class::is_all(text, Class::Ascii),
         Form::Digits => is_given(text, Class::Decimal),
         Form::Address => is_given(after_spaces(text), Class::Decimal),
-        Form::AddressOrNone => { (text.len() == 0) | is_given(after_spaces(text), Class::Decimal) }
+        Form::AddressOrNone => { text.is_empty() | is_given(after_spaces(text), Class::Decimal) }
         Form::MessageIdOrNone => {
             let digits = after_spaces(text);
-            (text.len() == 0) | (is_given(digits, Class::Hexadecimal) & (digits.len() <= 8))
+            text.is_empty() | (is_given(digits, Class::Hexadecimal) & (digits.len() <= 8))
         }
     }
 }
 
-// What a hex digit of either case stands for.
+// What a hex digit of either case stands for. Tried and too slow: a `match` on ranges, and `to_digit`.
 fn nibble_of(x: u8) -> u32
     ensures { (result ≡ nibble x) × (result < 16) }
 {
-    if (48 <= x) & (x <= 57) {
-        return octets::number::wide(x - 48);
+    if x.is_ascii_digit() {
+        u32::from(x - b'0')
+    } else if (b'A'..=b'F').contains(&x) {
+        u32::from(x - b'A' + 10)
+    } else if (b'a'..=b'f').contains(&x) {
+        u32::from(x - b'a' + 10)
+    } else {
+        0
     }
-    if (65 <= x) & (x <= 70) {
-        return octets::number::wide(x - 55);
-    }
-    if (97 <= x) & (x <= 102) {
-        return octets::number::wide(x - 87);
-    }
-    0
 }
 
 // The number that at most eight hex digits write.
@@ -71,10 +70,8 @@ fn hex_value(digits: &[u8]) -> u32
     ensures { result ≡ hex_value digits.now }
 {
     let mut value = 0;
-    let mut i = 0;
-    while i < digits.len() {
-        value = value * 16 + nibble_of(digits[i]);
-        i += 1;
+    for x in digits {
+        value = value * 16 + nibble_of(*x);
     }
     value
 }
@@ -84,7 +81,7 @@ pub fn message_id(text: &[u8]) -> Option<u32>
     requires { length text.now ≤ 8 }
     ensures { result ≡ message_id text.now }
 {
-    if text.len() == 0 {
+    if text.is_empty() {
         None
     } else {
         Some(hex_value(after_spaces(text)))

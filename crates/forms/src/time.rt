@@ -11,8 +11,8 @@ fn is_two(a: u8, b: u8, low: u8, high: u8) -> bool
     ensures { result ≡ two_digits low high a b }
 {
     if class::is_decimal(a) & class::is_decimal(b) {
-        let n = (a - 48) * 10 + (b - 48);
-        (low <= n) & (n <= high)
+        let n = (a - b'0') * 10 + (b - b'0');
+        (low..=high).contains(&n)
     } else {
         false
     }
@@ -33,10 +33,10 @@ fn is_time(t: &[u8]) -> bool
         & is_two(t[10], t[11], 0, 59)
         & class::is_decimal(t[12])
         & is_two(t[13], t[14], 0, 48)
-        & ((sign == 43) | (sign == 45))
+        & ((sign == b'+') | (sign == b'-'))
 }
 
-// A time that a request or a call gives.
+// A time that a request or a call gives. Its rule and the one below have two names, since a request of document 01 may change one alone.
 pub fn is_sent_time(t: &[u8]) -> bool
     ensures { result ≡ sent_time t.now }
 {

@@ -17,8 +17,8 @@ returns-in-Address c = rw (c.in-Address.is, ← (held c.after_spaces.ensures)) c
 
 pub returns-in-AddressOrNone : goal.returns-in-AddressOrNone
 unfolding after_spaces formed
-returns-in-AddressOrNone c = rw (c.in-AddressOrNone.is, ← (held c.after_spaces-in-AddressOrNone.ensures), c.is_given-in-AddressOrNone.ensures)
+returns-in-AddressOrNone c = rw (c.in-AddressOrNone.is, c.is_empty.ensures, ← (held c.after_spaces-in-AddressOrNone.ensures), c.is_given-in-AddressOrNone.ensures)
 
 pub returns-in-MessageIdOrNone : goal.returns-in-MessageIdOrNone
 unfolding after_spaces formed
-returns-in-MessageIdOrNone c = rw (c.in-MessageIdOrNone.is, ← (held c.after_spaces-digits.ensures), c.is_given-in-MessageIdOrNone.ensures)
+returns-in-MessageIdOrNone c = rw (c.in-MessageIdOrNone.is, c.is_empty-in-MessageIdOrNone.ensures, ← (held c.after_spaces-digits.ensures), c.is_given-in-MessageIdOrNone.ensures)

@@ -1,31 +1,23 @@
--- `forms::text::nibble_of` meets its contract: each test leaves room for its subtraction. Assumes nothing.
+-- `forms::text::nibble_of` meets its contract. Assumes nothing.
+use Rattle.std.proofs.Common.{rules}
+use Rattle.std.proofs.lemmas.Bool.Decides.{nat_tests}
 use native.Mathlib.Omega.{arith}
 use Rattle.octets.specs.Choice.{when◌then◌else◌}
 use Rattle.forms.specs.Text.{nibble}
-use Rattle.forms.proofs.ClassLaws.{within_low, within-high}
 use Rattle.forms.proofs.text.nibble_of.Goals as goal
 
-pub overflow_sub-x : goal.overflow_sub-x
-overflow_sub-x c = omega (arith, within_low 48 57 c.args.x c.if-x.true)
-
-pub returns-then-x : goal.returns-then-x
+pub returns-then-is_ascii_digit : goal.returns-then-is_ascii_digit
 unfolding nibble when◌then◌else◌
-returns-then-x c = (rw c.if-x.true c.wide.ensures.0, omega (arith, within-high 48 57 c.args.x c.if-x.true))
+returns-then-is_ascii_digit c = search rules
 
-pub overflow_sub-x-then-x-2 : goal.overflow_sub-x-then-x-2
-overflow_sub-x-then-x-2 c = omega (arith, within_low 65 70 c.args.x c.if-x-2.true)
-
-pub returns-then-x-2 : goal.returns-then-x-2
+pub returns-then-contains : goal.returns-then-contains
 unfolding nibble when◌then◌else◌
-returns-then-x-2 c = (rw (c.if-x.false, c.if-x-2.true) c.wide-then-x-2.ensures.0, omega (arith, within-high 65 70 c.args.x c.if-x-2.true))
+returns-then-contains c = search rules
 
-pub overflow_sub-x-then-x-3 : goal.overflow_sub-x-then-x-3
-overflow_sub-x-then-x-3 c = omega (arith, within_low 97 102 c.args.x c.if-x-3.true)
-
-pub returns-then-x-3 : goal.returns-then-x-3
+pub returns-then-contains-2 : goal.returns-then-contains-2
 unfolding nibble when◌then◌else◌
-returns-then-x-3 c = (rw (c.if-x.false, c.if-x-2.false, c.if-x-3.true) c.wide-then-x-3.ensures.0, omega (arith, within-high 97 102 c.args.x c.if-x-3.true))
+returns-then-contains-2 c = search rules
 
-pub returns : goal.returns
+pub returns-else-contains-2 : goal.returns-else-contains-2
 unfolding nibble when◌then◌else◌
-returns c = (rw (c.if-x.false, c.if-x-2.false, c.if-x-3.false), omega arith)
+returns-else-contains-2 c = grind (arith, nat_tests)
