@@ -1,39 +1,21 @@
--- Laws of the line's text: texts put one behind the other, how wide a decimal is, and hex octet by octet. Assumes nothing.
-use mathlib.Core.Path.{◌≡◌, refl, ap, ◌∙◌}
-use mathlib.Core.List.{List, [], ◌∷◌, ◌++◌}
+-- Laws of the line's text: a text at the front of another, how wide a decimal is, and hex octet by octet. Assumes nothing.
+use mathlib.Core.Path.{◌≡◌, refl, ap}
+use mathlib.Core.List.{List, [], ◌∷◌, ◌++◌, append_assoc}
 use Prim.Native.Nat.{ℕ, zero, suc, ◌+◌, ◌*◌, ◌-◌, ◌/◌, ◌%◌, ◌^◌, ◌≤◌, ◌<◌}
 use native.Mathlib.Omega.{arith}
 use native.Mathlib.Nat.{le_of_suc-le-suc, lt_of_not-le, pow-le-pow_right}
 use native.Mathlib.Numerals.{add-one}
 use lib.Dec.{ltb}
-use lib.ListN.{length, take, get_or, set, length-append}
-use lib.Seq.{length-take-le}
+use lib.ListN.{length, take, get_or}
 use borrow.Author.Tests.{ltb-true, ltb-false}
 use Rattle.octets.specs.Stretch.{patch}
 use Rattle.octets.specs.Number.{hex_digit}
 use Rattle.octets.proofs.StretchLaws.{if-cases}
-use Rattle.octets.proofs.PatchLaws.{patch-length, patch-next, set-patch, part-patch}
+use Rattle.octets.proofs.PatchLaws.{patch-length, part-patch}
 use Rattle.io.specs.Digits.{IsDigitCount}
 use Rattle.lines.specs.Line.{width_from, hex_of, shown}
 
--- ---- texts one behind the other
-
--- the text so far: ys from the front of xs on, ending at `at`
-pub record Said (xs text : List ℕ) (at : ℕ) (ys : List ℕ) : Type 0 where
-  pub is : text ≡ patch xs 0 ys
-  pub ends : at ≡ length ys
-
-pub said-first : (xs ys : List ℕ) {text : List ℕ} {end : ℕ} → text ≡ patch xs 0 ys → end ≡ 0 + length ys → Said xs text end ys
-said-first xs ys e f = record { is = e; ends = omega (arith, f) }
-
-pub said_more : (zs : List ℕ) {xs text next ys : List ℕ} {at end : ℕ}
-    → Said xs text at ys → next ≡ patch text at zs → end ≡ at + length zs → Said xs next end (ys ++ zs)
-said_more zs {xs} {text} {next} {ys} {at} {end} s e f =
-    let p : at ≡ 0 + length ys = omega (arith, s.ends) in
-    record {
-      is = e ∙ rw (s.is, p) (patch-next xs 0 ys zs);
-      ends = rw (length-append ys zs) (omega (arith, f, s.ends));
-    }
+-- ---- a text at the front of another
 
 -- what was said is the first octets of the text
 pub said-is : (xs ys : List ℕ) → length ys ≤ length xs → take (length ys) (patch xs 0 ys) ≡ ys
@@ -78,10 +60,6 @@ width_is (suc more) k n r f h i j =
 
 -- ---- the reply
 
-pub shown-none : (xs : List ℕ) → length xs ≡ 0 → shown xs ≡ 45 ∷ []
-shown-none [] h = refl
-shown-none (x ∷ xs) h = absurd (omega (arith, h))
-
 pub shown-some : (xs : List ℕ) → (length xs ≡ 0 → ⊥) → shown xs ≡ hex_of xs
 shown-some [] h = absurd (h refl)
 shown-some (x ∷ xs) h = refl
@@ -98,25 +76,14 @@ high x = hex_digit (x / 16)
 abbrev pub low : ℕ → ℕ
 low x = hex_digit (x % 16)
 
-hex-more : (xs : List ℕ) (i : ℕ) → i < length xs
-    → (hex_of (take i xs) ++ (high (get_or xs i 0) ∷ [])) ++ (low (get_or xs i 0) ∷ []) ≡ hex_of (take (suc i) xs)
+hex-more : (xs : List ℕ) (i : ℕ) → i < length xs → hex_of (take i xs) ++ (high (get_or xs i 0) ∷ low (get_or xs i 0) ∷ []) ≡ hex_of (take (suc i) xs)
 unfolding hex_of
 hex-more [] i h = absurd (omega arith)
 hex-more (x ∷ xs) zero h = refl
 hex-more (x ∷ xs) (suc i) h = ap (λ (l : List ℕ). high x ∷ low x ∷ l) (hex-more xs i (omega arith))
 
-put_one : (xs : List ℕ) (at : ℕ) (ys : List ℕ) (p v : ℕ) → p ≡ at + length ys → set (patch xs at ys) p v ≡ patch xs at (ys ++ (v ∷ []))
-put_one xs at ys p v e = rw (e) (set-patch (patch xs at ys) (at + length ys) v ∙ patch-next xs at ys (v ∷ []))
-
 -- two more digits
-pub hex-turn : (xs : List ℕ) (at : ℕ) (reply : List ℕ) (i : ℕ) (text : List ℕ) → i < length reply → text ≡ patch xs at (hex_of (take i reply))
-    → set (set text (at + 2 * i) (high (get_or reply i 0))) (at + 2 * i + 1) (low (get_or reply i 0)) ≡ patch xs at (hex_of (take (i + 1) reply))
-hex-turn xs at reply i text h e =
-    let x = get_or reply i 0 in
-    let done = hex_of (take i reply) in
-    let n : length done ≡ 2 * i = hex-length (take i reply) ∙ ap (λ (k : ℕ). 2 * k) (length-take-le i reply (omega arith)) in
-    let m : length (done ++ (high x ∷ [])) ≡ 2 * i + 1 = length-append done (high x ∷ []) ∙ omega (arith, n) in
-    rw (e, add-one i)
-    (ap (λ (l : List ℕ). set l (at + 2 * i + 1) (low x)) (put_one xs at done (at + 2 * i) (high x) (omega (arith, n)))
-    ∙ put_one xs at (done ++ (high x ∷ [])) (at + 2 * i + 1) (low x) (omega (arith, m))
-    ∙ ap (patch xs at) (hex-more reply i h))
+pub hex-turn : (start xs : List ℕ) (i : ℕ) {said : List ℕ} → i < length xs → said ≡ start ++ hex_of (take i xs)
+    → said ++ (high (get_or xs i 0) ∷ low (get_or xs i 0) ∷ []) ≡ start ++ hex_of (take (i + 1) xs)
+hex-turn start xs i h e =
+    rw (e, add-one i, ← (hex-more xs i h)) (append_assoc start (hex_of (take i xs)) (high (get_or xs i 0) ∷ low (get_or xs i 0) ∷ []))

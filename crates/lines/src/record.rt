@@ -13,48 +13,28 @@ pub enum Order {
     Octets,
     Close,
     Outcome,
-    Bad,
-}
-
-pub fn wide(x: u8) -> usize
-    ensures { (result ≡ x) × (result < 256) }
-{
-    x as usize
 }
 
 pub fn length_of(asked: &[u8]) -> usize
     requires { length asked.now ≡ record_size }
     ensures { (result ≡ length_of asked.now) × (result < 65536) }
 {
-    wide(asked[2]) * 256 + wide(asked[3])
+    usize::from(u16::from_be_bytes([asked[2], asked[3]]))
 }
 
-// Fields that a kind has no use for are not examined.
-pub fn order_of(asked: &[u8]) -> Order
+// None: a bad record. Fields that a kind has no use for are not examined.
+pub fn order_of(asked: &[u8]) -> Option<Order>
     ensures { (result ≡ order_of asked.now) × Readable result asked.now }
 {
     if asked.len() != SIZE {
-        return Order::Bad;
+        return None;
     }
-    let kind = asked[0];
     let length = length_of(asked);
-    match kind {
-        0 => Order::Open,
-        1 => {
-            if length <= PAYLOAD_SIZE {
-                Order::Octets
-            } else {
-                Order::Bad
-            }
-        }
-        2 => Order::Close,
-        3 => {
-            if length == 7 {
-                Order::Outcome
-            } else {
-                Order::Bad
-            }
-        }
-        _ => Order::Bad,
+    match asked[0] {
+        0 => Some(Order::Open),
+        1 if length <= PAYLOAD_SIZE => Some(Order::Octets),
+        2 => Some(Order::Close),
+        3 if length == 7 => Some(Order::Outcome),
+        _ => None,
     }
 }

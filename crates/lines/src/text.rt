@@ -1,67 +1,102 @@
-// The text of a line. Each function writes from `at` on and answers where its text ends.
-ghost use Rattle.std.specs.Prelude.{◌≡◌, ◌+◌, ◌≤◌, length};
+// The text of a line.
+ghost use Rattle.std.specs.Prelude.{◌≡◌, ◌+◌, ◌*◌, ◌≤◌, ℕ, List, [], ◌++◌, length, take};
 ghost use Rattle.octets.specs.Stretch.{patch};
 ghost use Rattle.lines.specs.Line.{decimal, hex_of, shown, line, line_room};
 ghost use Rattle.answers.specs.Reply.{space_needed};
 
 use octets::number;
+use std::marker::Model;
 
 // The longest line: 3, 20 and 88 characters, two blanks and an end of line, with the number's 20 kept free.
 pub const ROOM: usize = 131;
 
-fn put_text(text: &mut [u8], at: usize, said: &[u8]) -> usize
-    requires { at + length said.now ≤ length text.old }
-    ensures { (text.new ≡ patch text.old at said.now) × (result ≡ at + length said.now) }
-{
-    octets::stretch::put(text, at, said);
-    at + said.len()
+// A line as far as it is written: the first `length` of its octets.
+#[derive(Drop)]
+struct Line {
+    octets: [u8; ROOM],
+    length: usize,
 }
 
-fn put_decimal(text: &mut [u8], at: usize, n: u64) -> usize
-    requires { at + 20 ≤ length text.old }
-    ensures { (text.new ≡ patch text.old at (decimal n)) × (result ≡ at + length (decimal n)) × (result ≤ at + 20) }
-{
-    let mut digits = [0u8; 20];
-    let k = io::decimal(n, &mut digits);
-    put_text(text, at, &digits[..k])
+// Clauses see what is written.
+impl Model for Line {
+    ghost Value = { List ℕ };
+
+    ghost view = { λ l. take l.length l.octets };
+
+    ghost invariant = { λ l. l.length ≤ line_room };
 }
 
-// Two upper-case digits for each octet.
-fn put_hex(text: &mut [u8], at: usize, reply: &[u8]) -> usize
-    requires { (length reply.now ≤ space_needed) × (at + 88 ≤ length text.old) }
-    ensures { (text.new ≡ patch text.old at (hex_of reply.now)) × (result ≡ at + length (hex_of reply.now)) × (result ≤ at + 88) }
-{
-    let mut i = 0;
-    while i < reply.len() {
-        let x = number::wide(reply[i]);
-        text[at + 2 * i] = number::hex_digit(x / 16);
-        text[at + 2 * i + 1] = number::hex_digit(x % 16);
-        i += 1;
+impl Line {
+    fn new() -> Line
+        ensures { result ≡ [] }
+    {
+        Line {
+            octets: [0; ROOM],
+            length: 0,
+        }
     }
-    at + 2 * i
-}
 
-// The reply in hex, or "-" where there is none.
-fn put_reply(text: &mut [u8], at: usize, reply: &[u8]) -> usize
-    requires { (length reply.now ≤ space_needed) × (at + 88 ≤ length text.old) }
-    ensures { (text.new ≡ patch text.old at (shown reply.now)) × (result ≡ at + length (shown reply.now)) × (result ≤ at + 88) }
-{
-    if reply.len() == 0 {
-        put_text(text, at, b"-")
-    } else {
-        put_hex(text, at, reply)
+    fn as_slice(&self) -> &[u8]
+        ensures { (result.now ≡ self.now) × (length self.now ≤ line_room) }
+    {
+        &self.octets[..self.length]
+    }
+
+    fn text(mut self, said: &[u8]) -> Line
+        requires { length self + length said.now ≤ line_room }
+        ensures { result ≡ self ++ said.now }
+    {
+        let at = self.length;
+        let end = at + said.len();
+        self.octets[at..end].copy_from_slice(said);
+        self.length = end;
+        self
+    }
+
+    fn decimal(self, n: u64) -> Line
+        requires { length self + 20 ≤ line_room }
+        ensures { (result ≡ self ++ decimal n) × (length result ≤ length self + 20) }
+    {
+        let mut digits = [0; 20];
+        let k = io::decimal(n, &mut digits);
+        self.text(&digits[..k])
+    }
+
+    // Two upper-case digits for each octet.
+    fn hex(self, octets: &[u8]) -> Line
+        requires { length self + 2 * length octets.now ≤ line_room }
+        ensures { result ≡ self ++ hex_of octets.now }
+    {
+        let mut line = self;
+        for x in octets {
+            let x = u32::from(*x);
+            line = line.text(&[number::hex_digit(x / 16), number::hex_digit(x % 16)]);
+        }
+        line
+    }
+
+    // The reply in hex, or "-" where there is none.
+    fn reply(self, reply: &[u8]) -> Line
+        requires { (length reply.now ≤ space_needed) × (length self + 88 ≤ line_room) }
+        ensures { (result ≡ self ++ shown reply.now) × (length result ≤ length self + 88) }
+    {
+        if reply.is_empty() {
+            self.text(b"-")
+        } else {
+            self.hex(reply)
+        }
     }
 }
 
-// Answer, consumed count and reply, and the line's end.
+// Answer, consumed count and reply, and the line's end. It writes into a text that it is lent, since its clause says what that text holds then.
 pub fn put_line(text: &mut [u8], number: u8, consumed: usize, reply: &[u8]) -> usize
     requires { (length reply.now ≤ space_needed) × (length text.old ≡ line_room) }
     ensures { (text.new ≡ patch text.old 0 (line number consumed reply.now)) × (result ≡ length (line number consumed reply.now)) × (result ≤ line_room) }
 {
-    let a = put_decimal(text, 0, number as u64);
-    let b = put_text(text, a, b" ");
-    let c = put_decimal(text, b, consumed as u64);
-    let d = put_text(text, c, b" ");
-    let e = put_reply(text, d, reply);
-    put_text(text, e, b"\n")
+    let answer = Line::new().decimal(u64::from(number));
+    let counted = answer.text(b" ").decimal(consumed as u64);
+    let line = counted.text(b" ").reply(reply).text(b"\n");
+    let said = line.as_slice();
+    octets::stretch::put(text, 0, said);
+    said.len()
 }

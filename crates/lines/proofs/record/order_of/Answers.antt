@@ -14,28 +14,28 @@ pub returns-in-0 : goal.returns-in-0
 unfolding order_of when◌then◌else◌
 returns-in-0 c = (simp (eq-eqb _ _ c.if-asked-ne-SIZE.false, c.in-0.is), c.if-asked-ne-SIZE.false)
 
-pub returns-then-length-le-PAYLOAD_SIZE : goal.returns-then-length-le-PAYLOAD_SIZE
+pub returns-in-1 : goal.returns-in-1
 unfolding order_of when◌then◌else◌
-returns-then-length-le-PAYLOAD_SIZE c = (simp (eq-eqb _ _ c.if-asked-ne-SIZE.false, c.in-1.is, ← c.length_of-length.ensures.0, le-leb _ _ c.if-length-le-PAYLOAD_SIZE.true), (c.if-asked-ne-SIZE.false, rw (← c.length_of-length.ensures.0) c.if-length-le-PAYLOAD_SIZE.true))
-
-pub returns-else-length-le-PAYLOAD_SIZE : goal.returns-else-length-le-PAYLOAD_SIZE
-unfolding order_of when◌then◌else◌
-returns-else-length-le-PAYLOAD_SIZE c = (simp (eq-eqb _ _ c.if-asked-ne-SIZE.false, c.in-1.is, ← c.length_of-length.ensures.0, lt-leb _ _ c.if-length-le-PAYLOAD_SIZE.false), tt)
+returns-in-1 c = (simp (eq-eqb _ _ c.if-asked-ne-SIZE.false, c.in-1.is, ← c.length_of-length.ensures.0, le-leb _ _ c.if-length-le-PAYLOAD_SIZE.true), (c.if-asked-ne-SIZE.false, rw (← c.length_of-length.ensures.0) c.if-length-le-PAYLOAD_SIZE.true))
 
 pub returns-in-2 : goal.returns-in-2
 unfolding order_of when◌then◌else◌
 returns-in-2 c = (simp (eq-eqb _ _ c.if-asked-ne-SIZE.false, c.in-2.is), c.if-asked-ne-SIZE.false)
 
-pub returns-then-length-eq7 : goal.returns-then-length-eq7
+pub returns-in-3 : goal.returns-in-3
 unfolding order_of when◌then◌else◌
-returns-then-length-eq7 c = (simp (eq-eqb _ _ c.if-asked-ne-SIZE.false, c.in-3.is, ← c.length_of-length.ensures.0, eq-eqb _ _ c.if-length-eq7.true), c.if-asked-ne-SIZE.false)
-
-pub returns-else-length-eq7 : goal.returns-else-length-eq7
-unfolding order_of when◌then◌else◌
-returns-else-length-eq7 c = (simp (eq-eqb _ _ c.if-asked-ne-SIZE.false, c.in-3.is, ← c.length_of-length.ensures.0, ne_eqb _ _ c.if-length-eq7.false), tt)
+returns-in-3 c = (simp (eq-eqb _ _ c.if-asked-ne-SIZE.false, c.in-3.is, ← c.length_of-length.ensures.0, eq-eqb _ _ c.if-length-eq7.true), c.if-asked-ne-SIZE.false)
 
 pub returns-in_default : goal.returns-in_default
 unfolding order_of when◌then◌else◌
-returns-in_default c =
+returns-in_default c = (simp (eq-eqb _ _ c.if-asked-ne-SIZE.false, c.in-1.is, ← c.length_of-length.ensures.0, lt-leb _ _ c.if-length-le-PAYLOAD_SIZE.false), tt)
+
+pub returns-in_default-2 : goal.returns-in_default-2
+unfolding order_of when◌then◌else◌
+returns-in_default-2 c = (simp (eq-eqb _ _ c.if-asked-ne-SIZE.false, c.in-3.is, ← c.length_of-length.ensures.0, ne_eqb _ _ c.if-length-eq7.false), tt)
+
+pub returns-in_default-3 : goal.returns-in_default-3
+unfolding order_of when◌then◌else◌
+returns-in_default-3 c =
     let kind = get_or c.args.asked.now 0 0 in
     (simp (eq-eqb _ _ c.if-asked-ne-SIZE.false, ne_eqb kind 0 (omega arith), ne_eqb kind 1 (omega arith), ne_eqb kind 2 (omega arith), ne_eqb kind 3 (omega arith)), tt)
