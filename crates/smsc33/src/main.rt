@@ -3,6 +3,7 @@
 
 mod turn;
 
+ghost use Rattle.std.specs.Prelude.{IfOk};
 ghost use Rattle.io.specs.Counts.{IsPrefixLen};
 
 use lines::{record, text};
@@ -12,12 +13,6 @@ use std::fs::File;
 use std::io;
 use std::io::Read;
 
-#[derive(Clone, Copy)]
-struct Went {
-    more: bool,
-    state: State,
-}
-
 // Reads until the octets are full, the input ends or a read fails, and tells how many it put at their start.
 fn read_full<R: Read>(input: &mut R, octets: &mut [u8]) -> usize
     ensures { IsPrefixLen result octets.new }
@@ -25,72 +20,52 @@ fn read_full<R: Read>(input: &mut R, octets: &mut [u8]) -> usize
     let mut done = 0;
     while done < octets.len() {
         match input.read(&mut octets[done..]) {
-            Ok(0) => return done,
+            Ok(0) | Err(_) => break,
             Ok(n) => done += n,
-            Err(_) => return done,
         }
     }
     done
 }
 
-// Reads one record, takes it and prints its line. Nothing is left to do where the input ends.
-fn read_turn(rt: &HostRuntime, book: &[u8], table: &mut [u8], state: State) -> io::Result<Went> {
+// Reads one record, takes it, prints its line and tells the state to go on with: none where the input ends, and after a bad record.
+fn read_turn(
+    rt: &HostRuntime,
+    book: &[u8],
+    table: &mut [u8],
+    state: State,
+) -> io::Result<Option<State>> {
     let mut asked = [0u8; record::SIZE];
     let mut input = rt.stdin();
     let n = read_full(&mut input, &mut asked);
     if n == 0 {
-        return Ok(Went { more: false, state });
+        return Ok(None);
     }
     let mut line = [0u8; text::ROOM];
     let turned = turn::turn(book, table, state, &asked[..n], &mut line);
-    let next = turned.state;
-    let length = turned.length;
-    rt.write_all(&line[..length])?;
-    Ok(Went {
-        more: turned.more,
-        state: next,
-    })
+    rt.write_all(&line[..turned.length])?;
+    Ok(turned.flow.continue_value())
 }
 
-// A proved loop has to end, and nothing says that the input does: the turns are counted down from a number that no run uses up.
+// A proved loop has to end, and nothing says that the input does: it takes a number of turns that no run uses up.
 fn run(rt: &HostRuntime, book: &[u8], table: &mut [u8]) -> io::Result<()> {
     let mut state = State::fresh();
-    let mut turns = u64::MAX;
-    while turns > 0 {
-        let went = read_turn(rt, book, table, state)?;
-        if !went.more {
-            return Ok(());
+    for _ in 0..u64::MAX {
+        match read_turn(rt, book, table, state)? {
+            Some(next) => state = next,
+            None => break,
         }
-        state = went.state;
-        turns -= 1;
     }
     Ok(())
 }
 
-// The octets of the book's file that were read, or that it could not be read.
-#[derive(Drop)]
-struct Book {
-    failed: Option<io::Error>,
-    count: usize,
-}
-
-// A first read tells a file that cannot be read from one that is empty.
-fn read_book(file: &mut File, book: &mut [u8]) -> Book
-    ensures { IsPrefixLen result.count book.new }
+// Reads the book, and tells how many octets it put at the start. A first read tells a file that cannot be read from one that is empty.
+fn read_book(rt: &HostRuntime, book: &mut [u8]) -> io::Result<usize>
+    ensures { IfOk result (λ count. IsPrefixLen count book.new) }
 {
-    match file.read(book) {
-        Err(error) => Book {
-            failed: Some(error),
-            count: 0,
-        },
-        Ok(first) => {
-            let rest = read_full(file, &mut book[first..]);
-            Book {
-                failed: None,
-                count: first + rest,
-            }
-        }
-    }
+    let mut file = File::open(rt, BOOK_NAME)?;
+    let first = file.read(book)?;
+    let rest = read_full(&mut file, &mut book[first..]);
+    Ok(first + rest)
 }
 
 // One octet more than a book has: a book that is too long is lent as such.
@@ -114,16 +89,11 @@ fn fail(rt: &HostRuntime, error: &io::Error) -> io::Result<()> {
 }
 
 fn main(rt: HostRuntime) -> io::Result<()> {
-    let mut file = match File::open(&rt, BOOK_NAME) {
-        Ok(file) => file,
+    let mut octets = [0u8; BOOK_READ];
+    let n = match read_book(&rt, &mut octets) {
+        Ok(n) => n,
         Err(error) => return fail(&rt, &error),
     };
-    let mut octets = [0u8; BOOK_READ];
-    let read = read_book(&mut file, &mut octets);
-    if let Some(error) = read.failed {
-        return fail(&rt, &error);
-    }
-    let n = read.count;
     let mut table = [0u8; layout::TABLE_SIZE];
     run(&rt, &octets[..n], &mut table)
 }

@@ -1,50 +1,35 @@
 // One record taken: what the centre makes of it, and the line that tells it.
-ghost use Rattle.std.specs.Prelude.{◌≡◌, ℕ, List, length};
+ghost use Rattle.std.specs.Prelude.{◌≡◌, ℕ, ◌≤◌, List, length};
 ghost use Rattle.isolation.specs.Platform.{Step};
 ghost use Rattle.answers.specs.Answer.{Call, Question};
+ghost use Rattle.answers.specs.Reply.{space_needed};
 ghost use Rattle.centre.specs.Centre.{step, world};
-ghost use Rattle.lines.specs.Line.{line_room};
+ghost use Rattle.lines.specs.Line.{line, line_room};
 ghost use Rattle.lines.specs.Record.{record_size, outcome_of, account_of};
-ghost use Rattle.smsc33.specs.Turn.{turned, answered, stopped, turn_of, zero_space, Fits};
+ghost use Rattle.smsc33.specs.Turn.{told, turned, answered, stopped, turn_of, zero_space, Fits};
 
 use answers::reply;
 use lines::record::Order;
 use lines::{record, text};
 use session::State;
+use std::ops::ControlFlow;
 
-// The line is the first `length` octets of the text.
+// The line is the first `length` octets of the text. After a break no more is read.
 #[derive(Clone, Copy)]
 pub struct Turned {
-    pub more: bool,
     pub length: usize,
-    pub state: State,
+    pub flow: ControlFlow<State, State>,
 }
 
-fn open(state: State, session: usize, text: &mut [u8]) -> Turned
-    requires { length text.old ≡ line_room }
-    ensures { ((book table : List ℕ) → turned result table text.new ≡ answered (step book (world state table) (Step.opens session))) × Fits result text.new }
+// An answer's line, and the next record to be read.
+fn told(number: u8, consumed: usize, reply: &[u8], state: State, text: &mut [u8]) -> Turned
+    requires { (length reply.now ≤ space_needed) × (length text.old ≡ line_room) }
+    ensures { ((table : List ℕ) → turned result table text.new ≡ told (line number consumed reply.now) (world state table)) × Fits result text.new }
 {
-    let opened = state.open(session);
-    let next = opened.state;
-    let length = text::put_line(text, opened.number, 0, b"");
+    let length = text::put_line(text, number, consumed, reply);
     Turned {
-        more: true,
         length,
-        state: next,
-    }
-}
-
-fn close(state: State, session: usize, text: &mut [u8]) -> Turned
-    requires { length text.old ≡ line_room }
-    ensures { ((book table : List ℕ) → turned result table text.new ≡ answered (step book (world state table) (Step.closes session))) × Fits result text.new }
-{
-    let closed = state.close(session);
-    let next = closed.state;
-    let length = text::put_line(text, closed.number, 0, b"");
-    Turned {
-        more: true,
-        length,
-        state: next,
+        flow: ControlFlow::Continue(state),
     }
 }
 
@@ -62,14 +47,8 @@ fn take(
 {
     let mut space = [0u8; reply::SPACE_NEEDED];
     let took = centre::take::take(book, table, state, session, octets, stamp, &mut space);
-    let next = took.state;
     let reply = octets::stretch::first(&space, took.written);
-    let length = text::put_line(text, took.number, took.consumed, reply);
-    Turned {
-        more: true,
-        length,
-        state: next,
-    }
+    told(took.number, took.consumed, reply, took.state, text)
 }
 
 fn outcome(book: &[u8], table: &mut [u8], state: State, asked: &[u8], text: &mut [u8]) -> Turned
@@ -82,17 +61,12 @@ fn outcome(book: &[u8], table: &mut [u8], state: State, asked: &[u8], text: &mut
         table,
         state,
         &asked[4..20],
-        record::wide(asked[20]),
+        usize::from(asked[20]),
         id,
         asked[25],
         asked[26],
     );
-    let length = text::put_line(text, number, 0, b"");
-    Turned {
-        more: true,
-        length,
-        state,
-    }
+    told(number, 0, b"", state, text)
 }
 
 fn stop(state: State, text: &mut [u8]) -> Turned
@@ -102,9 +76,8 @@ fn stop(state: State, text: &mut [u8]) -> Turned
     let said = b"bad record\n";
     octets::stretch::put(text, 0, said);
     Turned {
-        more: false,
         length: said.len(),
-        state,
+        flow: ControlFlow::Break(state),
     }
 }
 
@@ -112,23 +85,28 @@ pub fn turn(book: &[u8], table: &mut [u8], state: State, asked: &[u8], text: &mu
     requires { length text.old ≡ line_room }
     ensures { (turned result table.new text.new ≡ turn_of book.now (world state table.old) asked.now) × Fits result text.new }
 {
-    let order = record::order_of(asked);
-    match order {
-        Order::Open => open(state, record::wide(asked[1]), text),
-        Order::Octets => {
+    match record::order_of(asked) {
+        Some(Order::Open) => {
+            let opened = state.open(usize::from(asked[1]));
+            told(opened.number, 0, b"", opened.state, text)
+        }
+        Some(Order::Octets) => {
             let end = 20 + record::length_of(asked);
             take(
                 book,
                 table,
                 state,
-                record::wide(asked[1]),
+                usize::from(asked[1]),
                 &asked[20..end],
                 &asked[4..20],
                 text,
             )
         }
-        Order::Close => close(state, record::wide(asked[1]), text),
-        Order::Outcome => outcome(book, table, state, asked, text),
-        Order::Bad => stop(state, text),
+        Some(Order::Close) => {
+            let closed = state.close(usize::from(asked[1]));
+            told(closed.number, 0, b"", closed.state, text)
+        }
+        Some(Order::Outcome) => outcome(book, table, state, asked, text),
+        None => stop(state, text),
     }
 }
