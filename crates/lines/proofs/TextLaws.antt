@@ -18,11 +18,8 @@ use Rattle.lines.specs.Line.{width_from, hex_of, shown}
 -- ---- a text at the front of another
 
 -- what was said is the first octets of the text
-pub said-is : (xs ys : List ℕ) → length ys ≤ length xs → take (length ys) (patch xs 0 ys) ≡ ys
-said-is xs ys h = part-patch xs 0 ys (omega arith)
-
 pub told_is : (xs ys : List ℕ) {text : List ℕ} {n : ℕ} → text ≡ patch xs 0 ys → n ≡ length ys → n ≤ length xs → take n text ≡ ys
-told_is xs ys e f h = rw (e, f) (said-is xs ys (omega (arith, f, h)))
+told_is xs ys e f h = rw (e, f) (part-patch xs 0 ys (omega (arith, f, h)))
 
 -- so it lies inside the text
 pub told-fits : (xs ys : List ℕ) {text : List ℕ} {n : ℕ} → text ≡ patch xs 0 ys → n ≡ length ys → n ≤ length xs

@@ -42,6 +42,7 @@ impl Line {
         &self.octets[..self.length]
     }
 
+    // What is said stands behind what was.
     fn text(mut self, said: &[u8]) -> Line
         requires { length self + length said.now ≤ line_room }
         ensures { result ≡ self ++ said.now }

@@ -1,5 +1,5 @@
 -- What a turn gives can be read off the shape that its contract gathers it in: the line, the state, the table, and whether to go on. Only what
--- lies behind the line in the lent text is left open. Assumes nothing.
+-- lies behind the line in the lent text is state_of open. Assumes nothing.
 use mathlib.Core.Path.{◌≡◌, sym, ap, ◌∙◌}
 use mathlib.Core.Bool.{true≢false, false≢true}
 use mathlib.Core.List.{List}
@@ -10,10 +10,10 @@ use Rattle.std.specs.ControlFlow.{continue_value}
 use Rattle.std.specs.declared.ops.ControlFlow.{ControlFlow}
 use Rattle.std.specs.declared.ops.ControlFlow.TheVariants.{Continue, Break}
 use Rattle.session.specs.declared.State.{State}
-use Rattle.smsc33.specs.Turn.{Told, turned, left, Fits}
+use Rattle.smsc33.specs.Turn.{Told, turned, state_of, Fits}
 use Rattle.smsc33.specs.declared.turn.Turned.{Turned}
 
-one-flow : (f f' : ControlFlow State State) → left f ≡ left f' → is_some (continue_value f) ≡ is_some (continue_value f') → f ≡ f'
+one-flow : (f f' : ControlFlow State State) → state_of f ≡ state_of f' → is_some (continue_value f) ≡ is_some (continue_value f') → f ≡ f'
 one-flow (Continue s) (Continue s') e g = ap Continue e
 one-flow (Continue s) (Break s') e g = absurd (true≢false g)
 one-flow (Break s) (Continue s') e g = absurd (false≢true g)

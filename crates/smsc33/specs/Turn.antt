@@ -28,6 +28,7 @@ line_of (A.taken n consumed written space) = line n consumed (take written space
 line_of (A.delivered n written space) = line n 0 (take written space)
 line_of (A.picked k r) = line 0 0 []
 
+-- a line, and the next record is read
 abbrev pub told : List ℕ → World → Told
 told text w = record { text = text; world = w; goes_on = true }
 
@@ -55,12 +56,12 @@ turn_of book w r = ordered (order_of r) book w r
 -- ---- what the code gives, as that
 
 -- the state handed back, whether or not the next record is read
-abbrev pub left : ControlFlow State State → State
-left (Continue state) = state
-left (Break state) = state
+abbrev pub state_of : ControlFlow State State → State
+state_of (Continue state) = state
+state_of (Break state) = state
 
 abbrev pub turned : Turned → List ℕ → List ℕ → Told
-turned r table text = record { text = take r.length text; world = world (left r.flow) table; goes_on = is_some (continue_value r.flow) }
+turned r table text = record { text = take r.length text; world = world (state_of r.flow) table; goes_on = is_some (continue_value r.flow) }
 
 abbrev pub Fits : Turned → List ℕ → Type 0
 Fits r text = (r.length ≤ length text) × (r.length ≡ length (take r.length text))
