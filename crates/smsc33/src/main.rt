@@ -17,6 +17,7 @@ use std::io::Read;
 fn read_full<R: Read>(input: &mut R, octets: &mut [u8]) -> usize
     ensures { IsPrefixLen result octets.new }
 {
+    // std's `read_exact` tells no count where the input ends early, so the count is kept here.
     let mut done = 0;
     while done < octets.len() {
         match input.read(&mut octets[done..]) {
