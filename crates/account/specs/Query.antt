@@ -1,5 +1,5 @@
 -- query_sm (document 01, "Effects"): unknown or empty id, or another source: 12.
-use Rattle.std.specs.Prelude.{ℕ, not, List, eqb}
+use Rattle.std.specs.Prelude.{ℕ, not, List, eqb, Some, None}
 use Rattle.octets.specs.Choice.{when◌then◌else◌}
 use Rattle.wire.specs.Status.{invalid_message_id}
 use Rattle.requests.specs.Query.{query_of}
@@ -7,18 +7,17 @@ use Rattle.requests.specs.declared.query.Query.{Query}
 use Rattle.records.specs.Layout.{source_of}
 use Rattle.records.specs.Book.{same_address}
 use Rattle.store.specs.Places.{record_at, on_found}
-use Rattle.store.specs.declared.places.Found.TheVariants.{At, Nowhere}
 use Rattle.source.specs.Source.{source_for, known}
 use Rattle.account.specs.declared.query.Asked.{Asked}
 
 -- the status, and the place of the record asked for
 abbrev pub refused : ℕ → Asked
-refused status = record { status = status; place = Nowhere }
+refused status = record { status = status; place = None }
 
 unfoldable pub looked_up : List ℕ → Query → List ℕ → Asked
 looked_up book q part =
     on_found (known q.id part)
-    (λ k. when same_address (source_of (record_at k part)) (source_for book q.source.octets) then record { status = 0; place = At k } else refused invalid_message_id)
+    (λ k. when same_address (source_of (record_at k part)) (source_for book q.source.octets) then record { status = 0; place = Some k } else refused invalid_message_id)
     (refused invalid_message_id)
 
 unfoldable pub queried : List ℕ → List ℕ → List ℕ → Asked

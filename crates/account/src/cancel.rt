@@ -8,7 +8,6 @@ ghost use Rattle.account.specs.Cancel.{changed, cancellable, cancelled_one, dele
 
 use forms::field;
 use records::layout;
-use store::places::Found;
 use wire::status;
 
 const DELETED: u8 = 4;
@@ -43,11 +42,10 @@ fn cancel_one(
     requires { (length part.old ≡ part_size) × (length stamp.now ≡ time_length) }
     ensures { changed result part.new ≡ cancelled_one id source.now destination.now stamp.now part.old }
 {
-    let found = store::search::find_id(&part[..], id);
-    let Found::At(k) = found else {
+    let Some(k) = store::search::find_id(part, id) else {
         return status::INVALID_MESSAGE_ID;
     };
-    if !is_cancellable(&part[..], k, source, destination) {
+    if !is_cancellable(part, k, source, destination) {
         return status::CANNOT_CANCEL;
     }
     changes::finish(part, k, DELETED, 0, stamp);
@@ -64,7 +62,7 @@ fn delete_if(
     requires { ((length part.old ≡ part_size) × (k < places)) × (length stamp.now ≡ time_length) }
     ensures { part.new ≡ on_place (deleted_if source.now destination.now stamp.now) k part.old }
 {
-    if store::search::is_pair_at(&part[..], k, source, destination) {
+    if store::search::is_pair_at(part, k, source, destination) {
         changes::finish(part, k, DELETED, 0, stamp);
     }
 }
@@ -78,10 +76,8 @@ fn delete_all(
     requires { (length part.old ≡ part_size) × (length stamp.now ≡ time_length) }
     ensures { part.new ≡ on_places (deleted_if source.now destination.now stamp.now) places 0 part.old }
 {
-    let mut k: usize = 0;
-    while k < layout::PLACES {
+    for k in 0..layout::PLACES {
         delete_if(part, k, source, destination, stamp);
-        k += 1;
     }
 }
 
@@ -97,10 +93,9 @@ fn cancel_all(
     if destination[2] == 0 {
         return status::INVALID_DESTINATION;
     }
-    let found = store::search::find_pair(&part[..], source, destination);
-    let Found::At(_) = found else {
+    if store::search::find_pair(part, source, destination).is_none() {
         return status::CANNOT_CANCEL;
-    };
+    }
     delete_all(part, source, destination, stamp);
     status::OK
 }

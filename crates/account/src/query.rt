@@ -7,14 +7,13 @@ ghost use Rattle.account.specs.Query.{looked_up, queried};
 
 use records::layout;
 use requests::query::Query;
-use store::places::Found;
 use wire::status;
 
 // The status, and the place of the record asked for.
 #[derive(Clone, Copy)]
 pub struct Asked {
     pub status: u8,
-    pub place: Found,
+    pub place: Option<usize>,
 }
 
 fn look_up(book: &[u8], part: &[u8], q: Query) -> Asked
@@ -25,23 +24,22 @@ fn look_up(book: &[u8], part: &[u8], q: Query) -> Asked
     let wanted = source::source_for(book, given);
     let octets = wanted.octets;
     let id = q.id;
-    let found = source::find_known(part, id);
-    let Found::At(k) = found else {
+    let Some(k) = source::find_known(part, id) else {
         return Asked {
             status: status::INVALID_MESSAGE_ID,
-            place: Found::Nowhere,
+            place: None,
         };
     };
     let r = store::places::record_at(part, k);
     if records::book::is_same_address(&r[layout::SOURCE..layout::DESTINATION], &octets) {
         Asked {
             status: status::OK,
-            place: Found::At(k),
+            place: Some(k),
         }
     } else {
         Asked {
             status: status::INVALID_MESSAGE_ID,
-            place: Found::Nowhere,
+            place: None,
         }
     }
 }
@@ -55,7 +53,7 @@ pub fn query(book: &[u8], part: &[u8], body: &[u8]) -> Asked
     if status != 0 {
         return Asked {
             status,
-            place: Found::Nowhere,
+            place: None,
         };
     }
     let q = read.request;

@@ -12,7 +12,6 @@ use changes::Correction;
 use forms::field;
 use records::layout;
 use requests::replace::Replace;
-use store::places::Found;
 use wire::{fields, status};
 
 fn is_replaceable(part: &[u8], k: usize, source: &[u8; field::ADDRESS_SIZE]) -> bool
@@ -29,11 +28,10 @@ fn replace_in(part: &mut [u8], source: &[u8; field::ADDRESS_SIZE], r: Replace, b
     ensures { changed result part.new ≡ replaced_in source.now r body.now part.old }
 {
     let id = r.id;
-    let found = source::find_known(&part[..], id);
-    let Found::At(k) = found else {
+    let Some(k) = source::find_known(part, id) else {
         return status::INVALID_MESSAGE_ID;
     };
-    if !is_replaceable(&part[..], k, source) {
+    if !is_replaceable(part, k, source) {
         return status::CANNOT_REPLACE;
     }
     let sent_schedule = r.schedule;

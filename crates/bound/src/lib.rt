@@ -17,7 +17,6 @@ use records::layout;
 use requests::plain;
 use session::Receipt;
 use session::refusal::Refusal;
-use store::places::Found;
 use wire::frame::Frame;
 use wire::{frame, status};
 
@@ -101,8 +100,7 @@ fn query_turn(
         return spoken(consumed, written, last);
     }
     let asked = account::query::query(book, part, body);
-    let place = asked.place;
-    let Found::At(k) = place else {
+    let Some(k) = asked.place else {
         let written = fixed::no_query(space, asked.status, sequence);
         return spoken(consumed, written, last);
     };

@@ -16,7 +16,6 @@ use crate::sizes;
 use records::layout;
 use session::refusal::Refusal;
 use session::{State, refusal};
-use store::places::Found;
 
 fn check_outcome(book: usize, table: usize, stamp: &[u8]) -> Result<(), Refusal>
     ensures early { outcome_number result ≡ outcome_early book table stamp.now }
@@ -98,10 +97,7 @@ fn on_pick(book: &[u8], part: &[u8], last: u32) -> Result<usize, Refusal>
     ensures { (placed result part.now ≡ picked_from book.now last part.now) × OnePlace result }
 {
     if store::account::is_account_ok(book, last, part) {
-        match store::search::find_next(part) {
-            Found::At(k) => Ok(k),
-            Found::Nowhere => Err(Refusal::NothingWaiting),
-        }
+        store::search::find_next(part).ok_or(Refusal::NothingWaiting)
     } else {
         Err(Refusal::AccountIllFormed)
     }

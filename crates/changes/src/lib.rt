@@ -1,7 +1,7 @@
 // What is written into records: a new one, a final state with its mark, a mark taken away, a new text, a correction.
 #![tactic(auto)]
 
-ghost use Rattle.std.specs.Prelude.{◌≡◌, ◌+◌, ◌≤◌, ◌<◌, [], ◌∷◌, length};
+ghost use Rattle.std.specs.Prelude.{◌≡◌, ◌+◌, ◌≤◌, ◌<◌, ℕ, List, [], ◌∷◌, length};
 ghost use Rattle.octets.specs.Stretch.{patch};
 ghost use Rattle.forms.specs.Text.{longest_text};
 ghost use Rattle.forms.specs.Time.{time_length};
@@ -95,6 +95,18 @@ pub fn put_new(part: &mut [u8], k: usize, id: u32, f: Fields, service: &[u8], te
     octets::stretch::put(part, layout::RECORD_SIZE * k, &record);
 }
 
+// Changes the record at place k, in the part itself.
+fn change_at<F: FnOnce(&mut [u8])>(part: &mut [u8], k: usize, change: F)
+    requires place { (length part.old ≡ part_size) × (k < places) }
+    requires change { (r : _) → length r.now ≡ record_size → F.pre change r }
+    ensures { (f : List ℕ → List ℕ)
+        → ((r : _) (back : _) → length r.now ≡ record_size → F.post change r tt back → back.now ≡ f r.now)
+        → part.new ≡ on_place f k part.old }
+{
+    let at = layout::RECORD_SIZE * k;
+    change(&mut part[at..at + layout::RECORD_SIZE])
+}
+
 fn finish_record(r: &mut [u8], state: u8, error: u8, stamp: &[u8])
     requires { (length r.old ≡ record_size) × (length stamp.now ≡ time_length) }
     ensures { r.new ≡ finished state error stamp.now r.old }
@@ -111,8 +123,7 @@ pub fn finish(part: &mut [u8], k: usize, state: u8, error: u8, stamp: &[u8])
     requires { ((length part.old ≡ part_size) × (k < places)) × (length stamp.now ≡ time_length) }
     ensures { part.new ≡ on_place (finished state error stamp.now) k part.old }
 {
-    let at = layout::RECORD_SIZE * k;
-    finish_record(&mut part[at..at + layout::RECORD_SIZE], state, error, stamp)
+    change_at(part, k, |r| finish_record(r, state, error, stamp))
 }
 
 // Takes the mark from the record at place k.
@@ -120,8 +131,7 @@ pub fn unmark(part: &mut [u8], k: usize)
     requires { (length part.old ≡ part_size) × (k < places) }
     ensures { part.new ≡ on_place unmarked k part.old }
 {
-    let at = layout::RECORD_SIZE * k;
-    put_octet(&mut part[at..at + layout::RECORD_SIZE], layout::MARK, 0)
+    change_at(part, k, |r| put_octet(r, layout::MARK, 0))
 }
 
 // No old octets stay behind a shorter text.
@@ -141,8 +151,7 @@ pub fn retext(part: &mut [u8], k: usize, default: u8, text: &[u8])
     requires { ((length part.old ≡ part_size) × (k < places)) × (length text.now ≤ longest_text) }
     ensures { part.new ≡ on_place (retexted default text.now) k part.old }
 {
-    let at = layout::RECORD_SIZE * k;
-    retext_record(&mut part[at..at + layout::RECORD_SIZE], default, text)
+    change_at(part, k, |r| retext_record(r, default, text))
 }
 
 fn retime(r: &mut [u8], at: usize, time: &[u8; time::LENGTH])
@@ -180,6 +189,5 @@ pub fn correct(part: &mut [u8], k: usize, c: Correction, text: &[u8])
     requires { ((length part.old ≡ part_size) × (k < places)) × (length text.now ≤ longest_text) }
     ensures { part.new ≡ on_place (corrected c text.now) k part.old }
 {
-    let at = layout::RECORD_SIZE * k;
-    correct_record(&mut part[at..at + layout::RECORD_SIZE], c, text)
+    change_at(part, k, |r| correct_record(r, c, text))
 }

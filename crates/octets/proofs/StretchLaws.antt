@@ -12,8 +12,10 @@ use lib.Dec.{eqb}
 use lib.Pointwise.{pointwise, bytes_decides}
 use Rattle.std.proofs.lemmas.List.{take_rest}
 use Rattle.std.specs.Cmp.Lexicographic.{unequal}
+use Rattle.std.specs.List.{list_any}
 pub use Rattle.std.proofs.Math.Bool.{and_assoc, or_assoc, and-true, and-false, or-false}
 pub use Rattle.std.proofs.lemmas.Bool.{and_from as and_both}
+use borrow.Author.Tests.{eqb-true, eq-eqb}
 use Rattle.octets.specs.Choice.{when◌then◌else◌}
 use Rattle.octets.specs.Stretch.{same, every, zeros, among, part}
 
@@ -100,15 +102,14 @@ every_take p (suc n) [] h = refl
 every_take p (suc n) (x ∷ xs) h =
     and_both (p x) (every p (take n xs)) (and_left (p x) (every p xs) h) (every_take p n xs (and_right (p x) (every p xs) h))
 
--- ---- among: the same loop, with the finds so far in `so`
+-- ---- among, compared from the other side
 
-pub among-turn : (n : ℕ) (so : Bool) (xs : List ℕ) (i : ℕ) → i < length xs
-    → (so || among n (drop i xs)) ≡ ((so || eqb n (get_or xs i 0)) || among n (drop (i + 1) xs))
-among-turn n so xs i h =
-    rw (drop-cons xs i 0 h, add-one i) (sym (or_assoc so (eqb n (get_or xs i 0)) (among n (drop (suc i) xs))))
-
-pub among-end : (n : ℕ) (so : Bool) (xs : List ℕ) (i : ℕ) → length xs ≤ i → (so || among n (drop i xs)) ≡ so
-among-end n so xs i h = rw (drop_of_length-le xs {i = i} h) (or-false so)
+pub among-any : (n : ℕ) (xs : List ℕ) → list_any (λ x. eqb x n) xs ≡ among n xs
+among-any n [] = refl
+among-any n (x ∷ xs) = rw (among-any n xs, eqb_sym x n)
+  where
+    eqb_sym : (a b : ℕ) → eqb a b ≡ eqb b a
+    eqb_sym a b = both_ways (eqb a b) (eqb b a) (λ e. eq-eqb b a (sym (eqb-true a b e))) (λ e. eq-eqb a b (sym (eqb-true b a e)))
 
 -- ---- same
 

@@ -12,7 +12,6 @@ use answers::{fixed, reply};
 use requests::plain;
 use session::Entry;
 use session::refusal::Refusal;
-use store::places::Found;
 use wire::frame::Frame;
 use wire::{fields, frame, status};
 
@@ -63,12 +62,11 @@ fn bind_to(receiver: bool, book: &[u8], body: &[u8]) -> Bound
     let system = request.system;
     let kind = request.kind;
     let password = request.password;
-    let found = store::search::find_named(
+    let Some(a) = store::search::find_named(
         book,
         fields::octets_of(body, system),
         fields::octets_of(body, kind),
-    );
-    let Found::At(a) = found else {
+    ) else {
         return not_bound(status::INVALID_PASSWORD);
     };
     let record = records::book::record_of(book, a);

@@ -12,7 +12,6 @@ use Rattle.records.specs.Layout.{id_of}
 use Rattle.store.specs.Account.{account_ok}
 use Rattle.store.specs.Places.{record_at}
 use Rattle.store.specs.Search.{owed_place}
-use Rattle.store.specs.declared.places.Found.TheVariants.{At, Nowhere}
 use Rattle.session.specs.State.{held_id, outstanding}
 use Rattle.session.specs.declared.Receipt.{Receipt}
 use Rattle.answers.specs.Reply.{over}
@@ -38,8 +37,8 @@ module _ (receiver : Bool) (book : List ℕ) (s : ℕ) (y : Delivery) (own : Own
   pub record Deliveries (P : Effect Own Answer → Type 0) : Type 0 where
     pub ill : account_ok book own.last own.part ≡ false → P (keeping (refused_delivery 9 y) own)
     pub unfit : (not receiver || is_some before) ≡ true → P (keeping (refused_delivery 12 y) own)
-    pub nothing : owed_place ids own.part ≡ Nowhere → P (keeping (refused_delivery 13 y) own)
-    pub sends : account_ok book own.last own.part ≡ true → receiver ≡ true → before ≡ None → (k : ℕ) → owed_place ids own.part ≡ At k
+    pub nothing : owed_place ids own.part ≡ None → P (keeping (refused_delivery 13 y) own)
+    pub sends : account_ok book own.last own.part ≡ true → receiver ≡ true → before ≡ None → (k : ℕ) → owed_place ids own.part ≡ Some k
         → (let r = record_at k own.part in let o = over (deliver_sm y.sequence r) y.space in
         P (keeping (delivered 0 o.count o.space) (owning own.part own.last (set own.receipts s (outstanding (id_of r) y.sequence)))))
 

@@ -3,6 +3,7 @@ use mathlib.Core.Path.{◌≡◌, refl, sym, ap, fun_ext, ◌∙◌}
 use mathlib.Core.Bool.{Bool, true, false, true≢false}
 use mathlib.Core.List.{List}
 use Prim.Native.Nat.{ℕ}
+use Rattle.std.specs.Prelude.{Option, Some, None}
 use Rattle.octets.specs.Rows.{rows}
 use Rattle.forms.specs.Field.{text_of}
 use Rattle.records.specs.Book.{book_record_size, book_record, system_of, same_name, spaces_only, same_system_id}
@@ -10,22 +11,20 @@ use Rattle.records.proofs.SpaceLaws.{names, name-padding, name-plain, addresses,
 use Rattle.records.proofs.NamedLaws.{first-not-spaces, second-not-spaces, named-system, named-alike, empty-named, empty-alone}
 use Rattle.store.specs.Places.{lowest}
 use Rattle.store.specs.Search.{named_place}
-use Rattle.store.specs.declared.places.Found.{Found}
-use Rattle.store.specs.declared.places.Found.TheVariants.{At, Nowhere}
 use Rattle.session.specs.State.{account_count}
 use Rattle.wellformed.proofs.Alike.{query-alike, pair-alike, cancel-one-alike, cancel-all-alike, replace-alike}
 use Rattle.properties.specs.Spaces.{Spaces}
 use Rattle.properties.proofs.Named.{found-named}
 
-none_named : (system kind book : List ℕ) → spaces_only system ≡ true → named_place system kind book ≡ Nowhere
+none_named : (system kind book : List ℕ) → spaces_only system ≡ true → named_place system kind book ≡ None
 none_named system kind book spaces = by (named_place system kind book) refl
   where
-    by : (found : Found) → named_place system kind book ≡ found → found ≡ Nowhere
-    by (At a) e =
+    by : (found : Option ℕ) → named_place system kind book ≡ found → found ≡ None
+    by (Some a) e =
         absurd (true≢false (sym spaces ∙ second-not-spaces _ system (named-system system kind (book_record a book) (found-named system kind book a e))))
-    by Nowhere e = refl
+    by None e = refl
 
-named-given : (system kind book : List ℕ) (a : ℕ) → named_place system kind book ≡ At a → spaces_only (text_of (system_of (book_record a book))) ≡ false
+named-given : (system kind book : List ℕ) (a : ℕ) → named_place system kind book ≡ Some a → spaces_only (text_of (system_of (book_record a book))) ≡ false
 named-given system kind book a e =
     first-not-spaces _ system (named-system system kind (book_record a book) (found-named system kind book a e))
 

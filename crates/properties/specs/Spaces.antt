@@ -1,6 +1,6 @@
 -- Leading spaces don't count when system_id, system_type and addresses are compared (document 02, 2): what the comparisons of crate records come to, and
 -- that whoever writes a name or an address with other leading spaces finds the same account and the same messages.
-use Rattle.std.specs.Prelude.{ℕ, ◌≤◌, ◌≡◌, true, false, ◌&&◌, List, [], ◌∷◌, ◌++◌, length, take, drop, replicate, eqb, Option}
+use Rattle.std.specs.Prelude.{ℕ, ◌≤◌, ◌≡◌, true, false, ◌&&◌, List, [], ◌∷◌, ◌++◌, length, take, drop, replicate, eqb, Option, Some, None}
 use Rattle.octets.specs.Stretch.{padded, same, every}
 use Rattle.octets.specs.Equivalence.{Equivalence}
 use Rattle.forms.specs.Class.{in_class, lead}
@@ -10,7 +10,6 @@ use Rattle.wire.specs.declared.fields.Address.{Address}
 use Rattle.requests.specs.declared.replace.Replace.{Replace}
 use Rattle.records.specs.Book.{book_record, system_of, system_type_of, used_ok, same_name, spaces_only, same_system_id, same_address, named}
 use Rattle.store.specs.Search.{pair_place, named_place}
-use Rattle.store.specs.declared.places.Found.TheVariants.{At, Nowhere}
 use Rattle.source.specs.Source.{no_address, source_for}
 use Rattle.account.specs.Query.{looked_up}
 use Rattle.account.specs.Cancel.{cancelled_one, cancelled_all}
@@ -49,9 +48,9 @@ pub record Compared : Type 0 where
 
 pub record Named : Type 0 where
   -- a system_id of spaces only names no account, whether it is sent
-  pub sent : (system kind book : List ℕ) → spaces_only system ≡ true → named_place system kind book ≡ Nowhere
+  pub sent : (system kind book : List ℕ) → spaces_only system ≡ true → named_place system kind book ≡ None
   -- or in the book
-  pub in_book : (system kind book : List ℕ) (a : ℕ) → named_place system kind book ≡ At a → spaces_only (text_of (system_of (book_record a book))) ≡ false
+  pub in_book : (system kind book : List ℕ) (a : ℕ) → named_place system kind book ≡ Some a → spaces_only (text_of (system_of (book_record a book))) ≡ false
   -- an empty one still names a record with an empty one, and no other
   pub empty : (kind b : List ℕ) → used_ok b ≡ true → text_of (system_of b) ≡ [] → same_name (text_of (system_type_of b)) kind ≡ true → named [] kind b ≡ true
   pub empty_alone : (kind b : List ℕ) → named [] kind b ≡ true → text_of (system_of b) ≡ []

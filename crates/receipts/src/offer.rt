@@ -8,7 +8,6 @@ ghost use Rattle.receipts.specs.Offer.{offered, offers};
 use crate::deliver_sm;
 use session::Receipt;
 use session::refusal::Refusal;
-use store::places::Found;
 
 // How many octets were written for a receipt, and the receipt, outstanding from now on.
 #[derive(Clone, Copy)]
@@ -37,8 +36,7 @@ pub fn offer_receipt(
     if !receiver | receipt.is_some() {
         return Err(Refusal::NoReceiver);
     }
-    let found = store::search::find_owed(part, ids);
-    let Found::At(k) = found else {
+    let Some(k) = store::search::find_owed(part, ids) else {
         return Err(Refusal::NothingOwed);
     };
     let r = store::places::record_at(part, k);

@@ -4,7 +4,6 @@ ghost use Rattle.records.specs.Layout.{part_size};
 ghost use Rattle.receipts.specs.Settle.{acknowledged, settled, settling};
 
 use session::Receipt;
-use store::places::Found;
 use wire::frame::Header;
 
 const DELIVER_SM_RESPONSE: u32 = 0x8000_0005;
@@ -13,10 +12,8 @@ fn acknowledge(part: &mut [u8], id: u32)
     requires { length part.old ≡ part_size }
     ensures { part.new ≡ acknowledged id part.old }
 {
-    let found = store::search::find_id(&part[..], id);
-    match found {
-        Found::At(k) => changes::unmark(part, k),
-        Found::Nowhere => (),
+    if let Some(k) = store::search::find_id(part, id) {
+        changes::unmark(part, k);
     }
 }
 

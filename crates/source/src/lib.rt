@@ -9,7 +9,6 @@ ghost use Rattle.source.specs.Source.{no_address, source_for, known};
 
 use forms::field;
 use records::book;
-use store::places::Found;
 use wire::fields::Address;
 
 pub fn is_none(address: Address) -> bool
@@ -34,12 +33,12 @@ pub fn source_for(book: &[u8], source: Address) -> Address
 }
 
 // The record that a message id names.
-pub fn find_known(part: &[u8], id: Option<u32>) -> Found
+pub fn find_known(part: &[u8], id: Option<u32>) -> Option<usize>
     requires { length part.now ≡ part_size }
     ensures { (result ≡ known id part.now) × OnePlace result }
 {
     match id {
-        None => Found::Nowhere,
+        None => None,
         Some(n) => store::search::find_id(part, n),
     }
 }

@@ -1,12 +1,11 @@
 -- The sixteen places of an account, as a list of records, and the lowest of those that pass a test.
-use Rattle.std.specs.Prelude.{ℕ, zero, suc, ◌+◌, ◌*◌, ◌<◌, Bool, true, false, not, ◌&&◌, ◌||◌, List, [], ◌∷◌, ltb}
+use Rattle.std.specs.Prelude.{ℕ, zero, suc, ◌≡◌, ◌+◌, ◌*◌, ◌<◌, Bool, true, ◌&&◌, List, [], ◌∷◌, ltb, length, Option, Some, None}
+use Rattle.std.specs.Borrow.{Bor}
 use Rattle.octets.specs.Choice.{when◌then◌else◌}
 use Rattle.octets.specs.Stretch.{part, patch}
 use Rattle.octets.specs.Lent.{Lent, lent_part}
 use Rattle.octets.specs.Rows.{rows}
 use Rattle.records.specs.Layout.{record_size, places}
-use Rattle.store.specs.declared.places.Found.{Found}
-use Rattle.store.specs.declared.places.Found.TheVariants.{At, Nowhere}
 use Rattle.store.specs.declared.places.Best.{Best}
 
 abbrev pub records : List ℕ → List (List ℕ)
@@ -21,37 +20,46 @@ abbrev pub record_part : ℕ → Lent → Lent
 record_part k s = lent_part (record_size * k) record_size s
 
 -- a place that is found is one of the first n; one of the sixteen
-abbrev pub Below : ℕ → Found → Type 0
-Below n (At k) = k < n
-Below n Nowhere = Unit
+abbrev pub Below : ℕ → Option ℕ → Type 0
+Below n (Some k) = k < n
+Below n None = Unit
 
-abbrev pub OnePlace : Found → Type 0
+abbrev pub OnePlace : Option ℕ → Type 0
 OnePlace found = Below places found
 
 -- what is done with a place, or where there is none
-abbrev pub on_found : {A : Type 0} → Found → (ℕ → A) → A → A
-on_found (At k) here nowhere = here k
-on_found Nowhere here nowhere = nowhere
+abbrev pub on_found : {A : Type 0} → Option ℕ → (ℕ → A) → A → A
+on_found (Some k) here nowhere = here k
+on_found None here nowhere = nowhere
 
 -- all of them in order, with the place of each, the first being at k
 unfoldable pub over : {A B : Type 0} → (B → ℕ → A → B) → B → ℕ → List A → B
 over f b k [] = b
 over f b k (x ∷ xs) = over f (f b k x) (k + 1) xs
 
-abbrev pub none : Best
-none = record { found = false; rank = 0; place = 0 }
+abbrev pub none : Option Best
+none = None
+
+-- a rank below that of the best so far, or the first
+abbrev pub beats : ℕ → Option Best → Bool
+beats n (Some b) = ltb n b.rank
+beats n None = true
 
 -- the record at k takes the place of the best so far if it passes and ranks lower
-unfoldable pub keep : (List ℕ → Bool) → (List ℕ → ℕ) → Best → ℕ → List ℕ → Best
-keep passes rank b k r =
-    when passes r && (not b.found || ltb (rank r) b.rank) then record { found = true; rank = rank r; place = k } else b
+unfoldable pub keep : (List ℕ → Bool) → (List ℕ → ℕ) → Option Best → ℕ → List ℕ → Option Best
+keep passes rank b k r = when passes r && beats (rank r) b then Some (record { rank = rank r; place = k }) else b
 
-abbrev pub found_of : Best → Found
-found_of b = when b.found then At b.place else Nowhere
+abbrev pub found_of : Option Best → Option ℕ
+found_of (Some b) = Some b.place
+found_of None = None
 
 -- of the records that pass, the place of the one that ranks lowest, the first of equals
-unfoldable pub lowest : (List ℕ → Bool) → (List ℕ → ℕ) → List (List ℕ) → Found
+unfoldable pub lowest : (List ℕ → Bool) → (List ℕ → ℕ) → List (List ℕ) → Option ℕ
 lowest passes rank rs = found_of (over (keep passes rank) none 0 rs)
+
+-- a test that is passed as code tells of each record of this size what f does
+abbrev pub Tells : {A : Type 0} → ℕ → (Bor (List ℕ) → A → Type 0) → (List ℕ → A) → Type 0
+Tells size told f = (r : Bor (List ℕ)) (a : _) → length r.now ≡ size → told r a → a ≡ f r.now
 
 -- ---- changes: the part with the record at place k replaced by f of it, and the same at each of n places from k on
 

@@ -17,10 +17,8 @@ fn are_records_ok(part: &[u8], last: u32) -> bool
     ensures { result ≡ every (record_ok last) (records part.now) }
 {
     let mut ok = true;
-    let mut k = 0;
-    while k < layout::PLACES {
-        ok = ok & record::is_record_ok(last, places::record_at(part, k));
-        k += 1;
+    for k in 0..layout::PLACES {
+        ok &= record::is_record_ok(last, places::record_at(part, k));
     }
     ok
 }
@@ -38,10 +36,8 @@ fn is_free_from(part: &[u8], k: usize, id: u32) -> bool
     ensures { result ≡ every (other_id id) (rows_from record_size places k part.now) }
 {
     let mut free = true;
-    let mut j = k;
-    while j < layout::PLACES {
-        free = free & is_other_id(id, places::record_at(part, j));
-        j += 1;
+    for j in k..layout::PLACES {
+        free &= is_other_id(id, places::record_at(part, j));
     }
     free
 }
@@ -64,10 +60,8 @@ fn are_ids_apart(part: &[u8]) -> bool
     ensures { result ≡ apart (records part.now) }
 {
     let mut ok = true;
-    let mut k = 0;
-    while k < layout::PLACES {
-        ok = ok & is_apart(part, k);
-        k += 1;
+    for k in 0..layout::PLACES {
+        ok &= is_apart(part, k);
     }
     ok
 }

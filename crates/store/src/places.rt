@@ -3,45 +3,15 @@ ghost use Rattle.std.specs.Prelude.{◌≡◌, ◌<◌, length};
 ghost use Rattle.octets.specs.Lent.{lent};
 ghost use Rattle.records.specs.Layout.{record_size, places, part_size, id_of};
 ghost use Rattle.store.specs.Search.{waiting};
-ghost use Rattle.store.specs.Places.{record_at, record_part, none, found_of};
+ghost use Rattle.store.specs.Places.{record_at, record_part};
 
 use records::layout;
 
-// A place, or absent.
-#[derive(Clone, Copy)]
-pub enum Found {
-    At(usize),
-    Nowhere,
-}
-
-// The best place of a search so far.
+// The best of a search so far: a record that passes, by its place, and how it ranks. A search begins with none.
 #[derive(Clone, Copy)]
 pub struct Best {
-    pub found: bool,
     pub rank: u64,
     pub place: usize,
-}
-
-impl Best {
-    pub fn none() -> Best
-        ensures { result ≡ none }
-    {
-        Best {
-            found: false,
-            rank: 0,
-            place: 0,
-        }
-    }
-
-    pub fn found_at(self) -> Found
-        ensures { result ≡ found_of self }
-    {
-        if self.found {
-            Found::At(self.place)
-        } else {
-            Found::Nowhere
-        }
-    }
 }
 
 // The record at place k, in the part itself.

@@ -9,8 +9,6 @@ use Rattle.records.specs.Layout.{id_of}
 use Rattle.store.specs.Places.{record_at, on_place, on_found}
 use Rattle.store.specs.Search.{pair_place, new_place}
 use Rattle.changes.specs.Change.{new_record, retexted}
-use Rattle.store.specs.declared.places.Found.{Found}
-use Rattle.store.specs.declared.places.Found.TheVariants.{Nowhere}
 use Rattle.changes.specs.declared.Fields.{Fields}
 use Rattle.submit.specs.declared.Given.{Given}
 use Rattle.source.specs.Source.{no_address, source_for}
@@ -60,8 +58,8 @@ added source s body part last =
     (refused queue_full part last)
 
 -- with the replace flag set, the lowest-id waiting record with equal source and destination
-abbrev pub to_replace : List ℕ → Submit → List ℕ → Found
-to_replace source s part = when eqb s.replace 1 then pair_place source s.destination.octets part else Nowhere
+abbrev pub to_replace : List ℕ → Submit → List ℕ → Option ℕ
+to_replace source s part = when eqb s.replace 1 then pair_place source s.destination.octets part else None
 
 -- it gets the new text, length and default id, and its id is returned
 unfoldable pub stored : List ℕ → Submit → List ℕ → List ℕ → ℕ → Submitted

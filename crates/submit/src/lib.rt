@@ -10,7 +10,6 @@ ghost use Rattle.submit.specs.Submit.{fields_of, added, to_replace, stored, subm
 
 use changes::Fields;
 use requests::submit::Submit;
-use store::places::Found;
 use wire::fields::Address;
 use wire::{fields, status};
 
@@ -66,8 +65,7 @@ fn add(part: &mut [u8], last: u32, source: Address, s: Submit, body: &[u8]) -> G
     if last == LAST_OF_ALL {
         return refuse(status::SYSTEM_ERROR, last);
     }
-    let found = store::search::find_new(&part[..]);
-    let Found::At(k) = found else {
+    let Some(k) = store::search::find_new(part) else {
         return refuse(status::QUEUE_FULL, last);
     };
     let id = last + 1;
@@ -89,7 +87,7 @@ fn add(part: &mut [u8], last: u32, source: Address, s: Submit, body: &[u8]) -> G
 }
 
 // The record that the submission replaces.
-fn find_replaced(part: &[u8], source: Address, s: Submit) -> Found
+fn find_replaced(part: &[u8], source: Address, s: Submit) -> Option<usize>
     requires { length part.now ≡ part_size }
     ensures { (result ≡ to_replace source.octets s part.now) × OnePlace result }
 {
@@ -99,7 +97,7 @@ fn find_replaced(part: &[u8], source: Address, s: Submit) -> Found
     if s.replace == 1 {
         store::search::find_pair(part, &source_octets, &destination)
     } else {
-        Found::Nowhere
+        None
     }
 }
 
@@ -107,11 +105,10 @@ fn store_in(part: &mut [u8], last: u32, source: Address, s: Submit, body: &[u8])
     requires { (length part.old ≡ part_size) × SubmitInside s body.now }
     ensures { gave result part.new ≡ stored source.octets s body.now part.old last }
 {
-    let found = find_replaced(&part[..], source, s);
-    let Found::At(k) = found else {
+    let Some(k) = find_replaced(part, source, s) else {
         return add(part, last, source, s, body);
     };
-    let id = store::places::id_at(&part[..], k);
+    let id = store::places::id_at(part, k);
     let text = s.text;
     changes::retext(part, k, s.default, fields::octets_of(body, text));
     Given {

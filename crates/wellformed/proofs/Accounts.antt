@@ -10,7 +10,7 @@ use native.Mathlib.Omega.{arith}
 use lib.ListN.{length}
 use lib.Dec.{eqb}
 use borrow.Author.Tests.{eqb-true, eqb-false, ne_eqb, not-true}
-use Rattle.std.specs.Prelude.{Option}
+use Rattle.std.specs.Prelude.{Option, Some, None}
 use Rattle.octets.proofs.StretchLaws.{and_left, and_right, if-cases}
 use Rattle.forms.specs.Class.{within}
 use Rattle.forms.specs.Time.{sent_time}
@@ -24,8 +24,6 @@ use Rattle.store.specs.Places.{record_at, on_place, on_places}
 use Rattle.store.specs.Search.{waiting, between, overwritable, is_empty, has_id, pair_place, empty_place, finished_place, or_else, new_place}
 use Rattle.changes.specs.Change.{finished, unmarked, retexted, corrected}
 use Rattle.store.specs.Account.{account_ok}
-use Rattle.store.specs.declared.places.Found.{Found}
-use Rattle.store.specs.declared.places.Found.TheVariants.{At, Nowhere}
 use Rattle.session.specs.declared.Receipt.{Receipt}
 use Rattle.source.specs.Source.{no_address, known}
 use Rattle.submit.specs.Submit.{Submitted, submitted, to_replace}
@@ -47,20 +45,20 @@ use Rattle.wellformed.proofs.Parts.{Follows, follows_same, follows-good, waiting
 
 -- ---- the place that an effect names
 
-never : {A : Type 0} {k : ℕ} → Nowhere ≡ At k → A
+never : {A : Type 0} {k : ℕ} → None ≡ Some k → A
 never e = let z : ◌≡◌ {A = ℕ} 0 1 = cc in absurd (omega arith)
 
-pub known-place : (id : Option ℕ) (part : List ℕ) (k : ℕ) → known id part ≡ At k → k < places
+pub known-place : (id : Option ℕ) (part : List ℕ) (k : ℕ) → known id part ≡ Some k → k < places
 unfolding known
 known-place None part k e = never e
 known-place (Some id) part k e = found-place (has_id id) id_of part k e
 
-either-place : (a b : Found) (k : ℕ) → or_else a b ≡ At k → (a ≡ At k) ⊎ (b ≡ At k)
+either-place : (a b : Option ℕ) (k : ℕ) → or_else a b ≡ Some k → (a ≡ Some k) ⊎ (b ≡ Some k)
 unfolding or_else
-either-place (At i) b k e = inl e
-either-place Nowhere b k e = inr e
+either-place (Some i) b k e = inl e
+either-place None b k e = inr e
 
-module _ (part : List ℕ) (k : ℕ) (e : new_place part ≡ At k) where
+module _ (part : List ℕ) (k : ℕ) (e : new_place part ≡ Some k) where
   pub new-place : k < places
   new-place = ⊎_elim (found-place is_empty (λ r. 0) part k) (found-place overwritable id_of part k) (either-place (empty_place part) (finished_place part) k e)
 
@@ -77,12 +75,12 @@ module _ (part : List ℕ) (k : ℕ) (e : new_place part ≡ At k) where
       (ne_eqb (state_of r) 1 (omega (arith, within_low 2 5 (state_of r) b.0)), not-true (marked r) b.1))
       (either-place (empty_place part) (finished_place part) k e)
 
-pub replace-place : (source body part : List ℕ) (k : ℕ) → to_replace source (submission body) part ≡ At k
+pub replace-place : (source body part : List ℕ) (k : ℕ) → to_replace source (submission body) part ≡ Some k
     → (k < places) × (waiting (record_at k part) ≡ true)
 replace-place source body part k e =
     let pair : List ℕ → Bool = λ r. waiting r && between source (submission body).destination.octets r in
-    let found : pair_place source (submission body).destination.octets part ≡ At k =
-    if-cases (λ (x : Found). x ≡ At k → pair_place source (submission body).destination.octets part ≡ At k) (eqb (submission body).replace 1) _ Nowhere (λ _ h. h) (λ _ h. never h) e in
+    let found : pair_place source (submission body).destination.octets part ≡ Some k =
+    if-cases (λ (x : Option ℕ). x ≡ Some k → pair_place source (submission body).destination.octets part ≡ Some k) (eqb (submission body).replace 1) _ None (λ _ h. h) (λ _ h. never h) e in
     (found-place pair id_of part k found, and_left _ _ (found-passes pair id_of part k found))
 
 pub cancellable-waiting : (source destination r : List ℕ) → cancellable source destination r ≡ true → waiting r ≡ true

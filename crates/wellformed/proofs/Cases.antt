@@ -19,8 +19,6 @@ use Rattle.records.specs.Layout.{places, source_of}
 use Rattle.records.specs.Book.{same_address}
 use Rattle.store.specs.Places.{record_at, on_places, on_found}
 use Rattle.store.specs.Search.{waiting, place_of, pair_place, new_place}
-use Rattle.store.specs.declared.places.Found.{Found}
-use Rattle.store.specs.declared.places.Found.TheVariants.{At, Nowhere}
 use Rattle.session.specs.State.{outstanding}
 use Rattle.session.specs.declared.Receipt.{Receipt}
 use Rattle.source.specs.Source.{no_address, known}
@@ -33,10 +31,10 @@ use Rattle.receipts.specs.Settle.{Settled, settling, acknowledged, settled}
 use Rattle.wellformed.specs.Effects.{submission, submitter, retexted_at, added_at, cancellation, canceller, deleted_at, deleted_all, replacement, replacer, corrected_at, finished_at, unmarked_at}
 
 -- a place that is looked for
-pub found-cases : {A : Type 0} (P : A → Type 0) (found : Found) (here : ℕ → A) (nowhere : A)
-    → ((k : ℕ) → found ≡ At k → P (here k)) → (found ≡ Nowhere → P nowhere) → P (on_found found here nowhere)
-found-cases P (At k) here nowhere p q = p k refl
-found-cases P Nowhere here nowhere p q = q refl
+pub found-cases : {A : Type 0} (P : A → Type 0) (found : Option ℕ) (here : ℕ → A) (nowhere : A)
+    → ((k : ℕ) → found ≡ Some k → P (here k)) → (found ≡ None → P nowhere) → P (on_found found here nowhere)
+found-cases P (Some k) here nowhere p q = p k refl
+found-cases P None here nowhere p q = q refl
 
 -- a refused body
 pub read-cases : {A : Type 0} (P : A → Type 0) (status : ℕ) (a b : A)
@@ -46,8 +44,8 @@ read-cases P status a b p q =
 
 module _ (book body part : List ℕ) (last : ℕ) (P : Submitted → Type 0) where
   pub submitted-cases : ((status : ℕ) → (status ≡ 0 → ⊥) → P (refused status part last))
-      → ((k : ℕ) → (submit_of body).status ≡ 0 → to_replace (submitter book body) (submission body) part ≡ At k → P (retexted_at body part last k))
-      → ((k : ℕ) → (submit_of body).status ≡ 0 → no_address (submission body).destination.octets ≡ false → (last ≡ 0xFFFFFFFF → ⊥) → new_place part ≡ At k
+      → ((k : ℕ) → (submit_of body).status ≡ 0 → to_replace (submitter book body) (submission body) part ≡ Some k → P (retexted_at body part last k))
+      → ((k : ℕ) → (submit_of body).status ≡ 0 → no_address (submission body).destination.octets ≡ false → (last ≡ 0xFFFFFFFF → ⊥) → new_place part ≡ Some k
       → P (added_at book body part last k))
       → P (submitted book body part last)
   unfolding submitted stored added
@@ -60,7 +58,7 @@ module _ (book body part : List ℕ) (last : ℕ) (P : Submitted → Type 0) whe
 
 module _ (stamp part : List ℕ) (P : Changed → Type 0) (refuses : (status : ℕ) → (status ≡ 0 → ⊥) → P (changed status part)) where
   by-id : (id : Option ℕ) (source destination : List ℕ)
-      → ((k : ℕ) → known id part ≡ At k → cancellable source destination (record_at k part) ≡ true → P (deleted_at stamp part k))
+      → ((k : ℕ) → known id part ≡ Some k → cancellable source destination (record_at k part) ≡ true → P (deleted_at stamp part k))
       → (id ≡ None → P (changed 0 (on_places (deleted_if source destination stamp) places 0 part)))
       → P (cancelled_by id source destination stamp part)
   unfolding cancelled_one cancelled_all known
@@ -71,7 +69,7 @@ module _ (stamp part : List ℕ) (P : Changed → Type 0) (refuses : (status : �
       found-cases P _ _ _ (λ k e. if-cases P _ _ _ (one k e) λ _. refuses 17 (omega arith)) λ _. refuses 12 (omega arith)
 
   pub cancelled-cases : (book body : List ℕ)
-      → ((k : ℕ) → known (cancellation body).id part ≡ At k → cancellable (canceller book body) (cancellation body).destination.octets (record_at k part) ≡ true
+      → ((k : ℕ) → known (cancellation body).id part ≡ Some k → cancellable (canceller book body) (cancellation body).destination.octets (record_at k part) ≡ true
       → P (deleted_at stamp part k))
       → ((cancellation body).id ≡ None → P (deleted_all book stamp body part))
       → P (cancelled book stamp body part)
@@ -79,14 +77,14 @@ module _ (stamp part : List ℕ) (P : Changed → Type 0) (refuses : (status : �
   cancelled-cases book body one all = read-cases P (cancel_of body).status _ _ (refuses _) λ _. by-id _ _ _ one all
 
 pub reported-cases : (stamp part : List ℕ) (P : Reported → Type 0) → P (told false part) → (id state error : ℕ)
-    → ((k : ℕ) → place_of id part ≡ At k → waiting (record_at k part) ≡ true → P (finished_at stamp state error part k))
+    → ((k : ℕ) → place_of id part ≡ Some k → waiting (record_at k part) ≡ true → P (finished_at stamp state error part k))
     → P (reported stamp id state error part)
 unfolding reported
 reported-cases stamp part P none id state error one = found-cases P _ _ _ (λ k e. if-cases P _ _ _ (one k e) λ _. none) λ _. none
 
 module _ (part : List ℕ) (P : Changed → Type 0) (refuses : (status : ℕ) → (status ≡ 0 → ⊥) → P (changed status part)) where
   pub replaced-cases : (book body : List ℕ)
-      → ((k : ℕ) → known (replacement body).id part ≡ At k → (same_address (source_of (record_at k part)) (replacer book body) && waiting (record_at k part)) ≡ true
+      → ((k : ℕ) → known (replacement body).id part ≡ Some k → (same_address (source_of (record_at k part)) (replacer book body) && waiting (record_at k part)) ≡ true
       → P (corrected_at body part k))
       → P (replaced book body part)
   unfolding replaced replaced_in
@@ -95,7 +93,7 @@ module _ (part : List ℕ) (P : Changed → Type 0) (refuses : (status : ℕ) �
       found-cases P _ _ _ (λ k e. if-cases P _ _ _ (one k e) λ _. refuses 19 (omega arith)) λ _. refuses 12 (omega arith)
 
 module _ (part : List ℕ) where
-  pub acknowledged-cases : (P : List ℕ → Type 0) → P part → (id : ℕ) → ((k : ℕ) → place_of id part ≡ At k → P (unmarked_at part k))
+  pub acknowledged-cases : (P : List ℕ → Type 0) → P part → (id : ℕ) → ((k : ℕ) → place_of id part ≡ Some k → P (unmarked_at part k))
       → P (acknowledged id part)
   unfolding acknowledged
   acknowledged-cases P none id one = found-cases P _ _ _ one λ _. none

@@ -7,14 +7,13 @@ use mathlib.Core.List.{List}
 use Prim.Native.Nat.{ℕ, ◌+◌, ◌≤◌, ◌<◌}
 use native.Mathlib.Omega.{arith}
 use lib.ListN.{length}
+use Rattle.std.specs.Prelude.{Option, Some}
 use Rattle.octets.proofs.StretchLaws.{if-true, if-false}
 use Rattle.wire.specs.Fields.{octets_of}
 use Rattle.records.specs.Layout.{record_size, places, part_size}
 use Rattle.store.specs.Places.{record_at, on_place}
 use Rattle.store.specs.Search.{waiting, between, place_of, new_place}
 use Rattle.changes.specs.Change.{finished, unmarked, retexted, corrected}
-use Rattle.store.specs.declared.places.Found.{Found}
-use Rattle.store.specs.declared.places.Found.TheVariants.{At}
 use Rattle.source.specs.Source.{known}
 use Rattle.submit.specs.Submit.{Submitted, submitted, to_replace}
 use Rattle.account.specs.Cancel.{Changed, deleted, deleted_if, cancelled}
@@ -43,27 +42,27 @@ module _ (part : List ℕ) (j : ℕ) where
   Kept part' = record_at j part' ≡ record_at j part
 
   -- a place is found, and it isn't j
-  elsewhere : (found : Found) (f : List ℕ → List ℕ) (k : ℕ) → (found ≡ At j → ⊥) → found ≡ At k → length (f (record_at k part)) ≤ record_size → Kept (on_place f k part)
-  elsewhere found f k ne e fits = on_place-other f k part j (λ same. ne (e ∙ ap At (sym same))) fits
+  elsewhere : (found : Option ℕ) (f : List ℕ → List ℕ) (k : ℕ) → (found ≡ Some j → ⊥) → found ≡ Some k → length (f (record_at k part)) ≤ record_size → Kept (on_place f k part)
+  elsewhere found f k ne e fits = on_place-other f k part j (λ same. ne (e ∙ ap Some (sym same))) fits
 
-  pub reported-elsewhere : (stamp : List ℕ) (id state error : ℕ) → (place_of id part ≡ At j → ⊥) → record_at j (reported stamp id state error part).part ≡ record_at j part
+  pub reported-elsewhere : (stamp : List ℕ) (id state error : ℕ) → (place_of id part ≡ Some j → ⊥) → record_at j (reported stamp id state error part).part ≡ record_at j part
   reported-elsewhere stamp id state error ne =
       reported-cases stamp part (λ (r : Reported). Kept r.part) refl id state error λ k e _.
       elsewhere _ (finished state error stamp) k ne e (omega (arith, finished-length state error stamp (record_at k part), record-within k part))
 
-  pub acknowledged-elsewhere : (id : ℕ) → (place_of id part ≡ At j → ⊥) → record_at j (acknowledged id part) ≡ record_at j part
+  pub acknowledged-elsewhere : (id : ℕ) → (place_of id part ≡ Some j → ⊥) → record_at j (acknowledged id part) ≡ record_at j part
   acknowledged-elsewhere id ne =
       acknowledged-cases part Kept refl id λ k e.
       elsewhere _ unmarked k ne e (omega (arith, unmarked-length (record_at k part), record-within k part))
 
-  pub replaced-elsewhere : (book body : List ℕ) → (known (replacement body).id part ≡ At j → ⊥) → record_at j (replaced book body part).part ≡ record_at j part
+  pub replaced-elsewhere : (book body : List ℕ) → (known (replacement body).id part ≡ Some j → ⊥) → record_at j (replaced book body part).part ≡ record_at j part
   replaced-elsewhere book body ne =
       replaced-cases part (λ (r : Changed). Kept r.part) (λ _ _. refl) book body λ k e _.
       let c = correction_of (replacement body) in
       let text = octets_of (replacement body).text body in
       elsewhere _ (corrected c text) k ne e (omega (arith, corrected-length c text (record_at k part), record-within k part))
 
-  pub submitted-elsewhere : (book body : List ℕ) (last : ℕ) → (to_replace (submitter book body) (submission body) part ≡ At j → ⊥) → (new_place part ≡ At j → ⊥)
+  pub submitted-elsewhere : (book body : List ℕ) (last : ℕ) → (to_replace (submitter book body) (submission body) part ≡ Some j → ⊥) → (new_place part ≡ Some j → ⊥)
       → record_at j (submitted book body part last).part ≡ record_at j part
   submitted-elsewhere book body last ne_replace ne_new =
       let text = octets_of (submission body).text body in
@@ -73,7 +72,7 @@ module _ (part : List ℕ) (j : ℕ) where
 
   module _ (book stamp body : List ℕ) where
     -- with an id
-    pub cancelled-elsewhere : (id : ℕ) → (cancellation body).id ≡ Some id → (place_of id part ≡ At j → ⊥) → record_at j (cancelled book stamp body part).part ≡ record_at j part
+    pub cancelled-elsewhere : (id : ℕ) → (cancellation body).id ≡ Some id → (place_of id part ≡ Some j → ⊥) → record_at j (cancelled book stamp body part).part ≡ record_at j part
     unfolding known
     cancelled-elsewhere id is ne =
         cancelled-cases stamp part (λ (r : Changed). Kept r.part) (λ _ _. refl) book body

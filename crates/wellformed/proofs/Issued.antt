@@ -7,12 +7,11 @@ use Prim.Native.Nat.{ℕ, ◌+◌, ◌≤◌, ◌<◌}
 use native.Mathlib.Omega.{arith}
 use lib.Dec.{eqb}
 use borrow.Author.Tests.{ne_eqb}
+use Rattle.std.specs.Prelude.{Option, Some, None}
 use Rattle.records.specs.Layout.{places, id_of}
 use Rattle.store.specs.Places.{record_at}
 use Rattle.store.specs.Search.{is_empty, has_id, place_of}
 use Rattle.store.specs.Account.{account_ok}
-use Rattle.store.specs.declared.places.Found.{Found}
-use Rattle.store.specs.declared.places.Found.TheVariants.{At, Nowhere}
 use Rattle.submit.specs.Submit.{Submitted, submitted}
 use Rattle.wellformed.proofs.Cases.{submitted-cases}
 use Rattle.wellformed.proofs.Lowest.{found-place, found-passes}
@@ -42,10 +41,10 @@ module _ (book part : List ℕ) (last : ℕ) (ok : account_ok book last part ≡
       by false e =
           ne_eqb (id_of (record_at k part)) id (λ same. absurd (omega (arith, id-within last part (account-good book last part ok) k h e)))
 
-  pub issued-unknown : (id : ℕ) → last < id → place_of id part ≡ Nowhere
+  pub issued-unknown : (id : ℕ) → last < id → place_of id part ≡ None
   issued-unknown id above = by (place_of id part) refl
     where
-      by : (found : Found) → place_of id part ≡ found → found ≡ Nowhere
-      by (At k) e =
+      by : (found : Option ℕ) → place_of id part ≡ found → found ≡ None
+      by (Some k) e =
           absurd (false≢true (sym (issued-new id k above (found-place (has_id id) id_of part k e)) ∙ found-passes (has_id id) id_of part k e))
-      by Nowhere e = refl
+      by None e = refl

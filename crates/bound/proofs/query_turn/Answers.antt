@@ -16,8 +16,8 @@ unfolding query_turn replying when◌then◌else◌
 returns-in_default c = rw (c.if-not-transmitter.false, ← c.query-asked.ensures.0, c.in_default.is, ← c.no_query-written-in_default.ensures, c.spoken-in_default.ensures)
 
 pub write_found-written-requires : goal.write_found-written-requires
-write_found-written-requires c = let b : c.in-At.k < 16 = subst OnePlace c.in-At.is c.query-asked.ensures.1 in omega arith
+write_found-written-requires c = let b : c.in-Some.k < 16 = subst OnePlace c.in-Some.is c.query-asked.ensures.1 in omega arith
 
 pub returns : goal.returns
 unfolding query_turn replying when◌then◌else◌
-returns c = rw (c.if-not-transmitter.false, ← c.query-asked.ensures.0, c.in-At.is, ← c.write_found-written.ensures, c.spoken-2.ensures)
+returns c = rw (c.if-not-transmitter.false, ← c.query-asked.ensures.0, c.in-Some.is, ← c.write_found-written.ensures, c.spoken-2.ensures)

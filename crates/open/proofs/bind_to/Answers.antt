@@ -15,18 +15,18 @@ returns-then-status-ne0 c = rw (← c.read_bind-read.ensures.0, ne_eqb _ _ c.if-
 
 pub returns-in_default : goal.returns-in_default
 unfolding bind_to when◌then◌else◌
-returns-in_default c = rw (← c.read_bind-read.ensures.0, eq-eqb _ _ c.if-status-ne0.false, ← (held c.octets_of.ensures), ← (held c.octets_of-2.ensures), sym c.find_named-found.ensures.0 ∙ c.in_default.is) c.not_bound-in_default.ensures
+returns-in_default c = rw (← c.read_bind-read.ensures.0, eq-eqb _ _ c.if-status-ne0.false, ← (held c.octets_of.ensures), ← (held c.octets_of-2.ensures), sym c.find_named.ensures.0 ∙ c.in_default.is) c.not_bound-in_default.ensures
 
 pub record_of-record-requires : goal.record_of-record-requires
-record_of-record-requires c = let b : c.in-At.a < 8 = subst (Below 8) c.in-At.is c.find_named-found.ensures.1 in omega arith
+record_of-record-requires c = let b : c.in-Some.a < 8 = subst (Below 8) c.in-Some.is c.find_named.ensures.1 in omega arith
 
 pub overflow_cast-a : goal.overflow_cast-a
-overflow_cast-a c = let b : c.in-At.a < 8 = subst (Below 8) c.in-At.is c.find_named-found.ensures.1 in omega arith
+overflow_cast-a c = let b : c.in-Some.a < 8 = subst (Below 8) c.in-Some.is c.find_named.ensures.1 in omega arith
 
 pub returns-then-is_password : goal.returns-then-is_password
 unfolding bind_to when◌then◌else◌
-returns-then-is_password c = rw (← c.read_bind-read.ensures.0, eq-eqb _ _ c.if-status-ne0.false, ← (held c.octets_of.ensures), ← (held c.octets_of-2.ensures), sym c.find_named-found.ensures.0 ∙ c.in-At.is, ← (held c.octets_of-3.ensures), ← (held c.record_of-record.ensures.0), sym c.is_password.ensures ∙ c.if-is_password.true, c.leg_of.ensures)
+returns-then-is_password c = rw (← c.read_bind-read.ensures.0, eq-eqb _ _ c.if-status-ne0.false, ← (held c.octets_of.ensures), ← (held c.octets_of-2.ensures), sym c.find_named.ensures.0 ∙ c.in-Some.is, ← (held c.octets_of-3.ensures), ← (held c.record_of-record.ensures.0), sym c.is_password.ensures ∙ c.if-is_password.true, c.leg_of.ensures)
 
 pub returns-else-is_password : goal.returns-else-is_password
 unfolding bind_to when◌then◌else◌
-returns-else-is_password c = rw (← c.read_bind-read.ensures.0, eq-eqb _ _ c.if-status-ne0.false, ← (held c.octets_of.ensures), ← (held c.octets_of-2.ensures), sym c.find_named-found.ensures.0 ∙ c.in-At.is, ← (held c.octets_of-3.ensures), ← (held c.record_of-record.ensures.0), sym c.is_password.ensures ∙ c.if-is_password.false) c.not_bound-else-is_password.ensures
+returns-else-is_password c = rw (← c.read_bind-read.ensures.0, eq-eqb _ _ c.if-status-ne0.false, ← (held c.octets_of.ensures), ← (held c.octets_of-2.ensures), sym c.find_named.ensures.0 ∙ c.in-Some.is, ← (held c.octets_of-3.ensures), ← (held c.record_of-record.ensures.0), sym c.is_password.ensures ∙ c.if-is_password.false) c.not_bound-else-is_password.ensures

@@ -16,11 +16,11 @@ returns-then-last-eq-LAST_OF_ALL c = rw (eq-eqb _ _ c.if-last-eq-LAST_OF_ALL.tru
 
 pub returns-in_default : goal.returns-in_default
 unfolding added when◌then◌else◌
-returns-in_default c = rw (ne_eqb _ _ c.if-last-eq-LAST_OF_ALL.false, sym c.find_new-found.ensures.0 ∙ c.in_default.is, c.refuse-in_default.ensures)
+returns-in_default c = rw (ne_eqb _ _ c.if-last-eq-LAST_OF_ALL.false, sym c.find_new.ensures.0 ∙ c.in_default.is, c.refuse-in_default.ensures)
 
 pub put_new-requires : goal.put_new-requires
-put_new-requires c = let b : c.in-At.k < 16 = subst OnePlace c.in-At.is c.find_new-found.ensures.1 in omega (arith, simp length-take at (ap length (held c.octets_of.ensures)), simp length-take at (ap length (held c.octets_of-2.ensures)))
+put_new-requires c = let b : c.in-Some.k < 16 = subst OnePlace c.in-Some.is c.find_new.ensures.1 in omega (arith, simp length-take at (ap length (held c.octets_of.ensures)), simp length-take at (ap length (held c.octets_of-2.ensures)))
 
 pub returns : goal.returns
 unfolding added when◌then◌else◌
-returns c = rw (ne_eqb _ _ c.if-last-eq-LAST_OF_ALL.false, sym c.find_new-found.ensures.0 ∙ c.in-At.is, ← (held c.octets_of.ensures), ← (held c.octets_of-2.ensures), ← c.fields_of.ensures, c.put_new.ensures)
+returns c = rw (ne_eqb _ _ c.if-last-eq-LAST_OF_ALL.false, sym c.find_new.ensures.0 ∙ c.in-Some.is, ← (held c.octets_of.ensures), ← (held c.octets_of-2.ensures), ← c.fields_of.ensures, c.put_new.ensures)

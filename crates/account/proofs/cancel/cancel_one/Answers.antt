@@ -9,18 +9,18 @@ use Rattle.account.proofs.cancel.cancel_one.Goals as goal
 
 pub returns-in_default : goal.returns-in_default
 unfolding cancelled_one
-returns-in_default c = rw (sym c.find_id-found.ensures.0 ∙ c.in_default.is)
+returns-in_default c = rw (sym c.find_id.ensures.0 ∙ c.in_default.is)
 
 pub is_cancellable-requires : goal.is_cancellable-requires
-is_cancellable-requires c = let b : c.in-At.k < 16 = subst OnePlace c.in-At.is c.find_id-found.ensures.1 in omega arith
+is_cancellable-requires c = let b : c.in-Some.k < 16 = subst OnePlace c.in-Some.is c.find_id.ensures.1 in omega arith
 
 pub returns-then-not-is_cancellable : goal.returns-then-not-is_cancellable
 unfolding cancelled_one when◌then◌else◌
-returns-then-not-is_cancellable c = rw (sym c.find_id-found.ensures.0 ∙ c.in-At.is, sym c.is_cancellable.ensures ∙ c.if-not-is_cancellable.true)
+returns-then-not-is_cancellable c = rw (sym c.find_id.ensures.0 ∙ c.in-Some.is, sym c.is_cancellable.ensures ∙ c.if-not-is_cancellable.true)
 
 pub finish-requires : goal.finish-requires
-finish-requires c = let b : c.in-At.k < 16 = subst OnePlace c.in-At.is c.find_id-found.ensures.1 in omega arith
+finish-requires c = let b : c.in-Some.k < 16 = subst OnePlace c.in-Some.is c.find_id.ensures.1 in omega arith
 
 pub returns : goal.returns
 unfolding cancelled_one when◌then◌else◌
-returns c = rw (sym c.find_id-found.ensures.0 ∙ c.in-At.is, sym c.is_cancellable.ensures ∙ c.if-not-is_cancellable.false, c.finish.ensures)
+returns c = rw (sym c.find_id.ensures.0 ∙ c.in-Some.is, sym c.is_cancellable.ensures ∙ c.if-not-is_cancellable.false, c.finish.ensures)

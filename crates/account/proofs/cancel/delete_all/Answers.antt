@@ -6,22 +6,16 @@ use Rattle.account.specs.Cancel.{deleted_if}
 use Rattle.account.proofs.cancel.delete_all.Goals as goal
 
 pub loop-k-init : goal.loop-k-init
-loop-k-init c = (omega arith, (refl, refl))
+loop-k-init c = (refl, refl)
 
 pub delete_if-requires : goal.delete_if-requires
 delete_if-requires c = omega arith
 
-pub overflow_add-k : goal.overflow_add-k
-overflow_add-k c = omega arith
-
-pub loop-k-smaller : goal.loop-k-smaller
-loop-k-smaller c = omega arith
-
 pub loop-k-preserved : goal.loop-k-preserved
-loop-k-preserved c = (omega arith, (c.delete_if.auto.part ∙ c.loop-k.invariant.1.0, c.loop-k.invariant.1.1 ∙ on_places-more (deleted_if c.args.source.now c.args.destination.now c.args.stamp.now) c.loop-k.k _ _ c.loop-k-test.true c.delete_if.ensures))
+loop-k-preserved c = (c.delete_if.auto.part ∙ c.loop-k.invariant.0, c.loop-k.invariant.1 ∙ on_places-more (deleted_if c.args.source.now c.args.destination.now c.args.stamp.now) c.loop-k.k _ _ c.loop-k-test.true c.delete_if.ensures)
 
 pub shape_of-part : goal.shape_of-part
-shape_of-part c = c.loop-k.invariant.1.0
+shape_of-part c = c.loop-k.invariant.0
 
 pub returns : goal.returns
-returns c = sym (c.loop-k.invariant.1.1 ∙ on_places-end (deleted_if c.args.source.now c.args.destination.now c.args.stamp.now) c.loop-k.k _ c.loop-k-test.false)
+returns c = sym (c.loop-k.invariant.1 ∙ on_places-end (deleted_if c.args.source.now c.args.destination.now c.args.stamp.now) c.loop-k.k _ c.loop-k-test.false)

@@ -9,18 +9,18 @@ use Rattle.account.proofs.outcome.report.Goals as goal
 
 pub returns-in_default : goal.returns-in_default
 unfolding reported
-returns-in_default c = rw (sym c.find_id-found.ensures.0 ∙ c.in_default.is)
+returns-in_default c = rw (sym c.find_id.ensures.0 ∙ c.in_default.is)
 
 pub is_waiting_at-requires : goal.is_waiting_at-requires
-is_waiting_at-requires c = let b : c.in-At.k < 16 = subst OnePlace c.in-At.is c.find_id-found.ensures.1 in omega arith
+is_waiting_at-requires c = let b : c.in-Some.k < 16 = subst OnePlace c.in-Some.is c.find_id.ensures.1 in omega arith
 
 pub returns-then-not-is_waiting_at : goal.returns-then-not-is_waiting_at
 unfolding reported when◌then◌else◌
-returns-then-not-is_waiting_at c = rw (sym c.find_id-found.ensures.0 ∙ c.in-At.is, sym c.is_waiting_at.ensures ∙ c.if-not-is_waiting_at.true)
+returns-then-not-is_waiting_at c = rw (sym c.find_id.ensures.0 ∙ c.in-Some.is, sym c.is_waiting_at.ensures ∙ c.if-not-is_waiting_at.true)
 
 pub finish-requires : goal.finish-requires
-finish-requires c = let b : c.in-At.k < 16 = subst OnePlace c.in-At.is c.find_id-found.ensures.1 in omega arith
+finish-requires c = let b : c.in-Some.k < 16 = subst OnePlace c.in-Some.is c.find_id.ensures.1 in omega arith
 
 pub returns : goal.returns
 unfolding reported when◌then◌else◌
-returns c = rw (sym c.find_id-found.ensures.0 ∙ c.in-At.is, sym c.is_waiting_at.ensures ∙ c.if-not-is_waiting_at.false, c.finish.ensures)
+returns c = rw (sym c.find_id.ensures.0 ∙ c.in-Some.is, sym c.is_waiting_at.ensures ∙ c.if-not-is_waiting_at.false, c.finish.ensures)

@@ -11,18 +11,18 @@ use Rattle.account.proofs.replace.replace_in.Goals as goal
 
 pub returns-in_default : goal.returns-in_default
 unfolding replaced_in
-returns-in_default c = rw (sym c.find_known-found.ensures.0 ∙ c.in_default.is)
+returns-in_default c = rw (sym c.find_known.ensures.0 ∙ c.in_default.is)
 
 pub is_replaceable-requires : goal.is_replaceable-requires
-is_replaceable-requires c = let b : c.in-At.k < 16 = subst OnePlace c.in-At.is c.find_known-found.ensures.1 in omega arith
+is_replaceable-requires c = let b : c.in-Some.k < 16 = subst OnePlace c.in-Some.is c.find_known.ensures.1 in omega arith
 
 pub returns-then-not-is_replaceable : goal.returns-then-not-is_replaceable
 unfolding replaced_in when◌then◌else◌
-returns-then-not-is_replaceable c = rw (sym c.find_known-found.ensures.0 ∙ c.in-At.is, sym c.is_replaceable.ensures ∙ c.if-not-is_replaceable.true)
+returns-then-not-is_replaceable c = rw (sym c.find_known.ensures.0 ∙ c.in-Some.is, sym c.is_replaceable.ensures ∙ c.if-not-is_replaceable.true)
 
 pub correct-requires : goal.correct-requires
-correct-requires c = let b : c.in-At.k < 16 = subst OnePlace c.in-At.is c.find_known-found.ensures.1 in omega (arith, simp length-take at (ap length (held c.octets_of.ensures)))
+correct-requires c = let b : c.in-Some.k < 16 = subst OnePlace c.in-Some.is c.find_known.ensures.1 in omega (arith, simp length-take at (ap length (held c.octets_of.ensures)))
 
 pub returns : goal.returns
 unfolding replaced_in when◌then◌else◌
-returns c = rw (sym c.find_known-found.ensures.0 ∙ c.in-At.is, sym c.is_replaceable.ensures ∙ c.if-not-is_replaceable.false, ← (held c.octets_of.ensures), c.correct.ensures)
+returns c = rw (sym c.find_known.ensures.0 ∙ c.in-Some.is, sym c.is_replaceable.ensures ∙ c.if-not-is_replaceable.false, ← (held c.octets_of.ensures), c.correct.ensures)

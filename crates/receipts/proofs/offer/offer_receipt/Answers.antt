@@ -19,17 +19,17 @@ returns-then-receiver-is_some c = rw (← c.is_account_ok.ensures, c.if-not-is_a
 
 pub returns-in_default : goal.returns-in_default
 unfolding offered when◌then◌else◌
-returns-in_default c = rw (← c.is_account_ok.ensures, c.if-not-is_account_ok.false, ← c.is_some.ensures, c.if-receiver-is_some.false, sym c.find_owed-found.ensures.0 ∙ c.in_default.is)
+returns-in_default c = rw (← c.is_account_ok.ensures, c.if-not-is_account_ok.false, ← c.is_some.ensures, c.if-receiver-is_some.false, sym c.find_owed.ensures.0 ∙ c.in_default.is)
 
 pub record_at-r-requires : goal.record_at-r-requires
-record_at-r-requires c = let b : c.in-At.k < 16 = subst OnePlace c.in-At.is c.find_owed-found.ensures.1 in omega arith
+record_at-r-requires c = let b : c.in-Some.k < 16 = subst OnePlace c.in-Some.is c.find_owed.ensures.1 in omega arith
 
 pub write-written-requires : goal.write-written-requires
-write-written-requires c = let b : c.in-At.k < 16 = subst OnePlace c.in-At.is c.find_owed-found.ensures.1 in
-    let s = account-state c.args.book.now c.args.last c.args.part.now c.in-At.k (sym c.is_account_ok.ensures ∙ c.if-not-is_account_ok.false) b in
+write-written-requires c = let b : c.in-Some.k < 16 = subst OnePlace c.in-Some.is c.find_owed.ensures.1 in
+    let s = account-state c.args.book.now c.args.last c.args.part.now c.in-Some.k (sym c.is_account_ok.ensures ∙ c.if-not-is_account_ok.false) b in
     ((c.record_at-r.ensures.1, rw (held c.record_at-r.ensures.0) s), omega arith)
 
 pub returns : goal.returns
 unfolding offered sent when◌then◌else◌
 returns c = let e = held c.record_at-r.ensures.0 in
-    rw (← c.is_account_ok.ensures, c.if-not-is_account_ok.false, ← c.is_some.ensures, c.if-receiver-is_some.false, sym c.find_owed-found.ensures.0 ∙ c.in-At.is, ← (rw e at c.write-written.ensures), ← (rw e at c.number_at-id.ensures))
+    rw (← c.is_account_ok.ensures, c.if-not-is_account_ok.false, ← c.is_some.ensures, c.if-receiver-is_some.false, sym c.find_owed.ensures.0 ∙ c.in-Some.is, ← (rw e at c.write-written.ensures), ← (rw e at c.number_at-id.ensures))

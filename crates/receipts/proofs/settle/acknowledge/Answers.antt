@@ -7,12 +7,12 @@ use Rattle.receipts.specs.Settle.{acknowledged}
 use Rattle.receipts.proofs.settle.acknowledge.Goals as goal
 
 pub unmark-requires : goal.unmark-requires
-unmark-requires c = let b : c.in-At.k < 16 = subst OnePlace c.in-At.is c.find_id-found.ensures.1 in omega arith
+unmark-requires c = let b : c.in-Some.k < 16 = subst OnePlace c.in-Some.is c.find_id.ensures.1 in omega arith
 
-pub returns-in-At : goal.returns-in-At
+pub returns-in-Some : goal.returns-in-Some
 unfolding acknowledged
-returns-in-At c = rw (sym c.find_id-found.ensures.0 ∙ c.in-At.is) c.unmark.ensures
+returns-in-Some c = rw (sym c.find_id.ensures.0 ∙ c.in-Some.is) c.unmark.ensures
 
-pub returns-in-Nowhere : goal.returns-in-Nowhere
+pub returns-in_default : goal.returns-in_default
 unfolding acknowledged
-returns-in-Nowhere c = rw (sym c.find_id-found.ensures.0 ∙ c.in-Nowhere.is)
+returns-in_default c = rw (sym c.find_id.ensures.0 ∙ c.in_default.is)

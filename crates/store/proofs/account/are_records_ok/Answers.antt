@@ -7,7 +7,7 @@ use Rattle.store.proofs.PlacesLaws.{every_more, every-done}
 use Rattle.store.proofs.account.are_records_ok.Goals as goal
 
 pub loop-k-init : goal.loop-k-init
-loop-k-init c = (omega arith, refl)
+loop-k-init c = refl
 
 pub record_at-requires : goal.record_at-requires
 record_at-requires c = omega arith
@@ -15,14 +15,8 @@ record_at-requires c = omega arith
 pub is_record_ok-ok-requires : goal.is_record_ok-ok-requires
 is_record_ok-ok-requires c = c.record_at.ensures.1
 
-pub overflow_add-k : goal.overflow_add-k
-overflow_add-k c = omega arith
-
-pub loop-k-smaller : goal.loop-k-smaller
-loop-k-smaller c = omega arith
-
 pub loop-k-preserved : goal.loop-k-preserved
-loop-k-preserved c = (omega arith, rw (c.is_record_ok-ok.ensures, held c.record_at.ensures.0) (c.loop-k.invariant.1 ∙ every_more c.loop-k.k c.args.part.now c.loop-k-test.true (record_ok c.args.last) c.loop-k.ok))
+loop-k-preserved c = rw (c.is_record_ok-ok.ensures, held c.record_at.ensures.0) (c.loop-k.invariant ∙ every_more c.loop-k.k c.args.part.now c.loop-k-test.true (record_ok c.args.last) c.loop-k.ok)
 
 pub returns : goal.returns
-returns c = sym (c.loop-k.invariant.1 ∙ every-done c.loop-k.k c.args.part.now c.loop-k-test.false (record_ok c.args.last) c.loop-k.ok)
+returns c = sym (c.loop-k.invariant ∙ every-done c.loop-k.k c.args.part.now c.loop-k-test.false (record_ok c.args.last) c.loop-k.ok)

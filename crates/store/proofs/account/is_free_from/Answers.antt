@@ -7,7 +7,7 @@ use Rattle.store.proofs.PlacesLaws.{every_more, every-done}
 use Rattle.store.proofs.account.is_free_from.Goals as goal
 
 pub loop-j-init : goal.loop-j-init
-loop-j-init c = (omega arith, refl)
+loop-j-init c = refl
 
 pub record_at-requires : goal.record_at-requires
 record_at-requires c = omega arith
@@ -15,14 +15,8 @@ record_at-requires c = omega arith
 pub is_other_id-free-requires : goal.is_other_id-free-requires
 is_other_id-free-requires c = c.record_at.ensures.1
 
-pub overflow_add-j : goal.overflow_add-j
-overflow_add-j c = omega arith
-
-pub loop-j-smaller : goal.loop-j-smaller
-loop-j-smaller c = omega arith
-
 pub loop-j-preserved : goal.loop-j-preserved
-loop-j-preserved c = (omega arith, rw (c.is_other_id-free.ensures, held c.record_at.ensures.0) (c.loop-j.invariant.1 ∙ every_more c.loop-j.j c.args.part.now c.loop-j-test.true (other_id c.args.id) c.loop-j.free))
+loop-j-preserved c = rw (c.is_other_id-free.ensures, held c.record_at.ensures.0) (c.loop-j.invariant ∙ every_more c.loop-j.j c.args.part.now c.loop-j-test.true (other_id c.args.id) c.loop-j.free)
 
 pub returns : goal.returns
-returns c = sym (c.loop-j.invariant.1 ∙ every-done c.loop-j.j c.args.part.now c.loop-j-test.false (other_id c.args.id) c.loop-j.free)
+returns c = sym (c.loop-j.invariant ∙ every-done c.loop-j.j c.args.part.now c.loop-j-test.false (other_id c.args.id) c.loop-j.free)

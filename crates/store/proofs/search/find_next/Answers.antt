@@ -1,7 +1,8 @@
 -- `store::search::find_next` meets its contract. Assumes nothing.
-use Rattle.store.specs.Search.{passes, rank_of}
+use Rattle.std.proofs.Common.{rules}
+use Rattle.records.specs.Layout.{places}
+use Rattle.store.specs.Search.{waiting, turn}
 use Rattle.store.proofs.search.find_next.Goals as goal
 
 pub returns : goal.returns
-unfolding passes rank_of
-returns c = c.lowest_of.ensures
+returns c = c.lowest.ensures places waiting turn c.requires (λ r a h k. search rules) (λ r a h k. search rules)

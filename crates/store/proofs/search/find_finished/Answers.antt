@@ -1,0 +1,8 @@
+-- `store::search::find_finished` meets its contract. Assumes nothing.
+use Rattle.std.proofs.Common.{rules}
+use Rattle.records.specs.Layout.{places, id_of}
+use Rattle.store.specs.Search.{overwritable}
+use Rattle.store.proofs.search.find_finished.Goals as goal
+
+pub returns : goal.returns
+returns c = c.lowest.ensures places overwritable id_of c.requires (λ r a h k. search rules) (λ r a h k. search rules)
