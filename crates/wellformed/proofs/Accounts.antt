@@ -10,7 +10,6 @@ use native.Mathlib.Omega.{arith}
 use lib.ListN.{length}
 use lib.Dec.{eqb}
 use borrow.Author.Tests.{eqb-true, eqb-false, ne_eqb, not-true}
-use Rattle.std.specs.Prelude.{Option, Some, None}
 use Rattle.octets.proofs.StretchLaws.{and_left, and_right, if-cases}
 use Rattle.forms.specs.Class.{within}
 use Rattle.forms.specs.Time.{sent_time}

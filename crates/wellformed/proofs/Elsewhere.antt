@@ -1,13 +1,12 @@
 -- The places that an effect doesn't name keep their octets; a cancellation without an id deletes each record that is waiting between the two addresses,
 -- and keeps each that isn't. Assumes nothing.
-use Rattle.std.specs.Prelude.{None, Some}
+use Rattle.std.specs.Prelude.{None, Option, Some}
 use mathlib.Core.Path.{◌≡◌, refl, sym, ap, ◌∙◌}
 use mathlib.Core.Bool.{true, false, ◌&&◌}
 use mathlib.Core.List.{List}
 use Prim.Native.Nat.{ℕ, ◌+◌, ◌≤◌, ◌<◌}
 use native.Mathlib.Omega.{arith}
 use lib.ListN.{length}
-use Rattle.std.specs.Prelude.{Option, Some}
 use Rattle.octets.proofs.StretchLaws.{if-true, if-false}
 use Rattle.wire.specs.Fields.{octets_of}
 use Rattle.records.specs.Layout.{record_size, places, part_size}
