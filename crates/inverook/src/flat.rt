@@ -18,6 +18,7 @@ pub struct InverookState {
     pub sequences: [u32; session::SESSIONS],
 }
 
+// No `From`: the entry is another crate's type, and the two numbers are nobody's.
 fn entry_of(kind: u8, account: u8) -> Entry
     ensures { result ≡ entry_of kind account }
 {
@@ -96,6 +97,7 @@ fn told(x: Session) -> Option<Receipt>
     }
 }
 
+// By the index: with an array's `map` an opening took twice as long.
 impl From<State> for InverookState {
     ghost from_gives = { λ st flat. flat ≡ flat_of st };
 

@@ -39,7 +39,7 @@ pub struct State {
     pub lasts: [u32; layout::ACCOUNTS],
 }
 
-// What a call comes to, and the state handed back.
+// What a call comes to, and the state handed back, on a refusal too: document 01 names this form.
 #[derive(Clone, Copy)]
 pub struct Handed<T> {
     pub outcome: Result<T, Refusal>,
