@@ -11,7 +11,7 @@ ghost use Rattle.smsc33.specs.Turn.{told, turned, answered, stopped, turn_of, ze
 use answers::reply;
 use lines::record::Order;
 use lines::{record, text};
-use session::State;
+use session::{State, refusal};
 use std::ops::ControlFlow;
 
 // The line is the first `length` octets of the text. After a break no more is read.
@@ -47,8 +47,13 @@ fn take(
 {
     let mut space = [0u8; reply::SPACE_NEEDED];
     let took = centre::take::take(book, table, state, session, octets, stamp, &mut space);
-    let reply = octets::stretch::first(&space, took.written);
-    told(took.number, took.consumed, reply, took.state, text)
+    match took.outcome {
+        Ok(taken) => {
+            let reply = octets::stretch::first(&space, taken.written);
+            told(0, taken.consumed, reply, took.state, text)
+        }
+        Err(refusal) => told(u8::from(refusal), 0, b"", took.state, text),
+    }
 }
 
 fn outcome(book: &[u8], table: &mut [u8], state: State, asked: &[u8], text: &mut [u8]) -> Turned
@@ -56,7 +61,7 @@ fn outcome(book: &[u8], table: &mut [u8], state: State, asked: &[u8], text: &mut
     ensures { (turned result table.new text.new ≡ answered (step book.now (world state table.old) (Step.of (account_of asked.now) (Question.outcome (outcome_of asked.now))))) × Fits result text.new }
 {
     let id = octets::number::number_at(asked, 21);
-    let number = centre::operations::outcome(
+    let outcome = centre::operations::outcome(
         book,
         table,
         state,
@@ -66,7 +71,7 @@ fn outcome(book: &[u8], table: &mut [u8], state: State, asked: &[u8], text: &mut
         asked[25],
         asked[26],
     );
-    told(number, 0, b"", state, text)
+    told(refusal::number_of(outcome), 0, b"", state, text)
 }
 
 fn stop(state: State, text: &mut [u8]) -> Turned
@@ -88,7 +93,7 @@ pub fn turn(book: &[u8], table: &mut [u8], state: State, asked: &[u8], text: &mu
     match record::order_of(asked) {
         Some(Order::Open) => {
             let opened = state.open(usize::from(asked[1]));
-            told(opened.number, 0, b"", opened.state, text)
+            told(refusal::number_of(opened.outcome), 0, b"", opened.state, text)
         }
         Some(Order::Octets) => {
             let end = 20 + record::length_of(asked);
@@ -104,7 +109,7 @@ pub fn turn(book: &[u8], table: &mut [u8], state: State, asked: &[u8], text: &mu
         }
         Some(Order::Close) => {
             let closed = state.close(usize::from(asked[1]));
-            told(closed.number, 0, b"", closed.state, text)
+            told(refusal::number_of(closed.outcome), 0, b"", closed.state, text)
         }
         Some(Order::Outcome) => outcome(book, table, state, asked, text),
         None => stop(state, text),

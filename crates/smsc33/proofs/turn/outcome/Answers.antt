@@ -3,5 +3,5 @@ use Rattle.smsc33.proofs.turn.outcome.Goals as goal
 
 pub returns : goal.returns
 returns c =
-    let s = rw (c.number_at-id.ensures, c.from.ensures) at c.outcome-number.ensures in
-    (rw (← s) (c.told.ensures.0 c.outcome-number.new.table), c.told.ensures.1)
+    let s = rw (c.number_at-id.ensures, c.from.ensures) at c.outcome-outcome.ensures in
+    (rw (← s) (c.told.ensures.0 c.outcome-outcome.new.table), c.told.ensures.1)

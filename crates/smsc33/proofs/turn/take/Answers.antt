@@ -2,7 +2,12 @@
 use Rattle.octets.proofs.LentLaws.{held}
 use Rattle.smsc33.proofs.turn.take.Goals as goal
 
-pub returns : goal.returns
-returns c =
+pub returns-in-Ok : goal.returns-in-Ok
+returns-in-Ok c =
     let s = rw (held c.first-reply.ensures) at c.told.ensures.0 c.take-took.new.table in
-    (rw (← c.take-took.ensures) s, c.told.ensures.1)
+    (rw (← c.take-took.ensures, c.in-Ok.is) s, c.told.ensures.1)
+
+pub returns-in-Err : goal.returns-in-Err
+returns-in-Err c =
+    let s = rw c.from.ensures at c.told-in-Err.ensures.0 c.take-took.new.table in
+    (rw (← c.take-took.ensures, c.in-Err.is) s, c.told-in-Err.ensures.1)
