@@ -120,12 +120,10 @@ pub fn cancel(book: &[u8], part: &mut [u8], stamp: &[u8], body: &[u8]) -> u8
     requires { ((length book.now ≡ book_record_size) × (length part.old ≡ part_size)) × (length stamp.now ≡ time_length) }
     ensures { changed result part.new ≡ cancelled book.now stamp.now body.now part.old }
 {
-    let read = requests::cancel::read_cancel(body);
-    let status = read.status;
-    if status != 0 {
-        return status;
-    }
-    let request = read.request;
+    let request = match requests::cancel::read_cancel(body) {
+        Ok(request) => request,
+        Err(status) => return status.code(),
+    };
     let given = request.source;
     let source = source::source_for(book, given);
     let source_octets = source.octets;

@@ -48,14 +48,11 @@ pub fn query(book: &[u8], part: &[u8], body: &[u8]) -> Asked
     requires { (length book.now ≡ book_record_size) × (length part.now ≡ part_size) }
     ensures { (result ≡ queried book.now body.now part.now) × OnePlace result.place }
 {
-    let read = requests::query::read_query(body);
-    let status = read.status;
-    if status != 0 {
-        return Asked {
-            status,
+    match requests::query::read_query(body) {
+        Ok(q) => look_up(book, part, q),
+        Err(status) => Asked {
+            status: status.code(),
             place: None,
-        };
+        },
     }
-    let q = read.request;
-    look_up(book, part, q)
 }

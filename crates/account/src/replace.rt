@@ -53,12 +53,10 @@ pub fn replace(book: &[u8], part: &mut [u8], body: &[u8]) -> u8
     requires { (length book.now ≡ book_record_size) × (length part.old ≡ part_size) }
     ensures { changed result part.new ≡ replaced book.now body.now part.old }
 {
-    let read = requests::replace::read_replace(body);
-    let status = read.status;
-    if status != 0 {
-        return status;
-    }
-    let r = read.request;
+    let r = match requests::replace::read_replace(body) {
+        Ok(r) => r,
+        Err(status) => return status.code(),
+    };
     let given = r.source;
     let source = source::source_for(book, given);
     let octets = source.octets;

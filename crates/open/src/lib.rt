@@ -53,12 +53,10 @@ fn bind_to(receiver: bool, book: &[u8], body: &[u8]) -> Bound
     requires { length book.now ≡ book_size }
     ensures { result ≡ bind_to receiver book.now body.now }
 {
-    let read = requests::bind::read_bind(body);
-    let status = read.status;
-    if status != 0 {
-        return not_bound(status);
-    }
-    let request = read.request;
+    let request = match requests::bind::read_bind(body) {
+        Ok(request) => request,
+        Err(status) => return not_bound(status.code()),
+    };
     let system = request.system;
     let kind = request.kind;
     let password = request.password;

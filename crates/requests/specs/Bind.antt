@@ -5,9 +5,9 @@ use Rattle.wire.specs.Status.{invalid_command_length, invalid_parameter}
 use Rattle.wire.specs.Cursor.{start, end_of}
 use Rattle.wire.specs.Fields.{Inside, octet_at, text_at}
 use Rattle.requests.specs.declared.bind.Bind.{Bind}
-use Rattle.requests.specs.declared.bind.BindRead.{BindRead}
+use Rattle.requests.specs.Reading.{Reading}
 
-unfoldable pub bind_of : List ℕ → BindRead
+unfoldable pub bind_of : List ℕ → Reading Bind
 bind_of body =
     let system = text_at Ascii 16 invalid_parameter body start in
     let password = text_at Ascii 9 invalid_parameter body system.next in

@@ -4,9 +4,10 @@ use Rattle.forms.specs.declared.text.Form.TheVariants.{Ascii}
 use Rattle.wire.specs.Status.{invalid_parameter, invalid_source, invalid_destination}
 use Rattle.wire.specs.Cursor.{start, end_of}
 use Rattle.wire.specs.Fields.{text_at, address_at, id_at}
-use Rattle.requests.specs.declared.cancel.CancelRead.{CancelRead}
+use Rattle.requests.specs.declared.cancel.Cancel.{Cancel}
+use Rattle.requests.specs.Reading.{Reading}
 
-unfoldable pub cancel_of : List ℕ → CancelRead
+unfoldable pub cancel_of : List ℕ → Reading Cancel
 cancel_of body =
     let service = text_at Ascii 6 invalid_parameter body start in
     let id = id_at body service.next in

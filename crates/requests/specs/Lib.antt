@@ -1,3 +1,4 @@
+pub mod Reading
 pub mod Bind
 pub mod Submit
 pub mod Query

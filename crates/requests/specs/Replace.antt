@@ -5,9 +5,9 @@ use Rattle.wire.specs.Status.{invalid_registered, invalid_parameter, invalid_sou
 use Rattle.wire.specs.Cursor.{start, end_of}
 use Rattle.wire.specs.Fields.{Inside, octet_at, address_at, id_at, time_at, short_at}
 use Rattle.requests.specs.declared.replace.Replace.{Replace}
-use Rattle.requests.specs.declared.replace.ReplaceRead.{ReplaceRead}
+use Rattle.requests.specs.Reading.{Reading}
 
-unfoldable pub replace_of : List ℕ → ReplaceRead
+unfoldable pub replace_of : List ℕ → Reading Replace
 replace_of body =
     let id = id_at body start in
     let source = address_at invalid_source body id.next in

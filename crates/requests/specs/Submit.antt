@@ -6,9 +6,9 @@ use Rattle.wire.specs.Status.{invalid_command_length, invalid_priority, invalid_
 use Rattle.wire.specs.Cursor.{start, end_of}
 use Rattle.wire.specs.Fields.{Inside, octet_at, text_at, address_at, time_at, short_at}
 use Rattle.requests.specs.declared.submit.Submit.{Submit}
-use Rattle.requests.specs.declared.submit.SubmitRead.{SubmitRead}
+use Rattle.requests.specs.Reading.{Reading}
 
-unfoldable pub submit_of : List ℕ → SubmitRead
+unfoldable pub submit_of : List ℕ → Reading Submit
 submit_of body =
     let service = text_at Ascii 6 invalid_parameter body start in
     let source = address_at invalid_source body service.next in

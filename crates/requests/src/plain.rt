@@ -2,12 +2,15 @@
 ghost use Rattle.std.specs.Prelude.{◌≡◌};
 ghost use Rattle.requests.specs.Plain.{plain_of};
 
-use wire::cursor::Cursor;
+use wire::fields::Fields;
+use wire::status;
 
 // The status of a body that has no fields.
 pub fn read_plain(body: &[u8]) -> u8
     ensures { result ≡ plain_of body.now }
 {
-    let c0 = Cursor::start();
-    c0.end(body)
+    match Fields::of(body).end() {
+        Ok(()) => status::OK,
+        Err(status) => status.code(),
+    }
 }

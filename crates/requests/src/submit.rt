@@ -1,11 +1,11 @@
 // submit_sm.
-ghost use Rattle.std.specs.Prelude.{◌≡◌};
+ghost use Rattle.std.specs.Prelude.{IfOk};
+ghost use Rattle.requests.specs.Reading.{Reads};
 ghost use Rattle.requests.specs.Submit.{submit_of, SubmitInside};
 
 use forms::text::Form;
-use wire::cursor::Cursor;
-use wire::fields::{Address, Span, Time};
-use wire::{fields, status};
+use wire::fields::{Address, Fields, Span, Time};
+use wire::status::Status;
 
 #[derive(Clone, Copy)]
 pub struct Submit {
@@ -24,65 +24,38 @@ pub struct Submit {
     pub text: Span,
 }
 
-#[derive(Clone, Copy)]
-pub struct SubmitRead {
-    pub status: u8,
-    pub request: Submit,
-}
-
-pub fn read_submit(body: &[u8]) -> SubmitRead
-    ensures { (result ≡ submit_of body.now) × SubmitInside result.request body.now }
+pub fn read_submit(body: &[u8]) -> Result<Submit, Status>
+    ensures read { Reads result (submit_of body.now) }
+    ensures inside { IfOk result (λ request. SubmitInside request body.now) }
 {
-    let c0 = Cursor::start();
-    let service = fields::read_text(body, c0, Form::Ascii, 6, status::INVALID_PARAMETER);
-    let c1 = service.next;
-    let source = fields::read_address(body, c1, status::INVALID_SOURCE);
-    let c2 = source.next;
-    let destination = fields::read_address(body, c2, status::INVALID_DESTINATION);
-    let c3 = destination.next;
-    let esm = fields::read_octet(body, c3, 255, status::INVALID_COMMAND_LENGTH);
-    let c4 = esm.next;
-    let protocol = fields::read_octet(body, c4, 255, status::INVALID_COMMAND_LENGTH);
-    let c5 = protocol.next;
-    let priority = fields::read_octet(body, c5, 1, status::INVALID_PRIORITY);
-    let c6 = priority.next;
-    let schedule = fields::read_time(body, c6);
-    let c7 = schedule.next;
-    let validity = fields::read_time(body, c7);
-    let c8 = validity.next;
-    let registered = fields::read_octet(body, c8, 1, status::INVALID_REGISTERED);
-    let c9 = registered.next;
-    let replace = fields::read_octet(body, c9, 1, status::INVALID_PARAMETER);
-    let c10 = replace.next;
-    let coding = fields::read_octet(body, c10, 255, status::INVALID_COMMAND_LENGTH);
-    let c11 = coding.next;
-    let default = fields::read_octet(body, c11, 100, status::INVALID_PARAMETER);
-    let c12 = default.next;
-    let text = fields::read_short(body, c12, default.value);
-    let c13 = text.next;
-    let status = c13.end(body);
-    let service_text = service.value;
-    let source_value = source.value;
-    let destination_value = destination.value;
-    let schedule_value = schedule.value;
-    let validity_value = validity.value;
-    let text_value = text.value;
-    SubmitRead {
-        status,
-        request: Submit {
-            service: service_text,
-            source: source_value,
-            destination: destination_value,
-            esm: esm.value,
-            protocol: protocol.value,
-            priority: priority.value,
-            schedule: schedule_value,
-            validity: validity_value,
-            registered: registered.value,
-            replace: replace.value,
-            coding: coding.value,
-            default: default.value,
-            text: text_value,
-        },
-    }
+    let mut fields = Fields::of(body);
+    let service = fields.text_or(Form::Ascii, 6, Status::InvalidParameter)?;
+    let source = fields.address_or(Status::InvalidSource)?;
+    let destination = fields.address_or(Status::InvalidDestination)?;
+    let esm = fields.octet_or(255, Status::InvalidCommandLength)?;
+    let protocol = fields.octet_or(255, Status::InvalidCommandLength)?;
+    let priority = fields.octet_or(1, Status::InvalidPriority)?;
+    let schedule = fields.time()?;
+    let validity = fields.time()?;
+    let registered = fields.octet_or(1, Status::InvalidRegistered)?;
+    let replace = fields.octet_or(1, Status::InvalidParameter)?;
+    let coding = fields.octet_or(255, Status::InvalidCommandLength)?;
+    let default = fields.octet_or(100, Status::InvalidParameter)?;
+    let text = fields.short(default)?;
+    fields.end()?;
+    Ok(Submit {
+        service,
+        source,
+        destination,
+        esm,
+        protocol,
+        priority,
+        schedule,
+        validity,
+        registered,
+        replace,
+        coding,
+        default,
+        text,
+    })
 }

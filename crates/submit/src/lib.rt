@@ -122,12 +122,10 @@ pub fn submit(book: &[u8], part: &mut [u8], last: u32, body: &[u8]) -> Given
     requires { (length book.now ≡ book_record_size) × (length part.old ≡ part_size) }
     ensures { gave result part.new ≡ submitted book.now body.now part.old last }
 {
-    let read = requests::submit::read_submit(body);
-    let status = read.status;
-    if status != 0 {
-        return refuse(status, last);
-    }
-    let s = read.request;
+    let s = match requests::submit::read_submit(body) {
+        Ok(s) => s,
+        Err(status) => return refuse(status.code(), last),
+    };
     let destination = s.destination;
     if source::is_none(destination) {
         return refuse(status::INVALID_DESTINATION, last);

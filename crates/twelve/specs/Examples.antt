@@ -1,10 +1,9 @@
 -- The twelve examples of document 01, P1 to P12: one table, one claim, over the very `step` that the contracts of the code cite.
-use Rattle.std.specs.Prelude.{ℕ, ◌+◌, ◌*◌, ◌-◌, ◌≡◌, refl, List, [], ◌∷◌, ◌++◌, take, get_or, replicate, eqb, Some}
+use Rattle.std.specs.Prelude.{ℕ, ◌+◌, ◌*◌, ◌-◌, ◌≡◌, refl, List, [], ◌∷◌, ◌++◌, take, get_or, replicate, eqb, Option, Some}
 use Rattle.octets.specs.Choice.{when◌then◌else◌}
 use Rattle.octets.specs.Rows.{rows}
 use Rattle.wire.specs.Cursor.{start}
-use Rattle.wire.specs.Fields.{id_at}
-use Rattle.wire.specs.declared.fields.IdRead.{IdRead}
+use Rattle.wire.specs.Fields.{Read, id_at}
 use Rattle.answers.specs.Reply.{space_needed}
 use Rattle.records.specs.Layout.{record_size, places, account_count}
 use Rattle.session.specs.State.{closed_session, session_with}
@@ -62,7 +61,7 @@ pub data Name : Type 0 where
 
 pub data Case : Type 0 where
   taking : (book : List ℕ) → World → Step Call Question → Came → Case
-  reading : List ℕ → IdRead → Case
+  reading : List ℕ → Read (Option ℕ) → Case
 
 pub record Example : Type 0 where
   pub name : Name

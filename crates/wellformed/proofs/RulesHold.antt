@@ -20,12 +20,11 @@ use Rattle.forms.specs.declared.class.Class.TheVariants.{NotNul}
 use Rattle.forms.specs.declared.text.Form.{Form}
 use Rattle.forms.specs.declared.text.Form.TheVariants.{Ascii, AddressOrNone}
 use Rattle.forms.proofs.ClassLaws.{lead-within}
-use Rattle.wire.specs.Cursor.{refused, not_both}
-use Rattle.wire.specs.Fields.{octet_at, text_at, address_at, time_at, span_at, short_at, window, Inside, octets_of}
+use Rattle.wire.specs.Cursor.{Cursor, refused, not_both}
+use Rattle.wire.specs.Fields.{Read, octet_at, text_at, address_at, time_at, span_at, short_at, window, Inside, octets_of}
 use Rattle.wire.specs.Status.{invalid_command_length, invalid_parameter}
-use Rattle.wire.specs.declared.cursor.Cursor.{Cursor}
-use Rattle.wire.specs.declared.fields.SpanRead.{SpanRead}
-use Rattle.wire.specs.declared.fields.TimeRead.{TimeRead}
+use Rattle.wire.specs.declared.fields.Span.{Span}
+use Rattle.wire.specs.declared.fields.Time.{Time}
 use Rattle.wire.proofs.FieldLaws.{inside, octet-within, span-within, short-within}
 use Rattle.requests.specs.Submit.{submit_of}
 use Rattle.requests.specs.Replace.{replace_of}
@@ -42,7 +41,7 @@ text-holds form n most bad body c size none_formed =
     if-cases Holds _ _ _ (λ _. none) λ short.
     if-cases Holds _ _ _ (λ ok. read (omega (arith, lead-within (in_class NotNul) w, eqb-false k (length w) short)) ok) (λ _. none)
   where
-    Holds : SpanRead → Type 0
+    Holds : Read Span → Type 0
     Holds r = Text form n r.value body
 
     w : List ℕ
@@ -81,7 +80,7 @@ time-holds body c =
     if-cases Holds _ _ _ (λ _. none) λ long.
     if-cases Holds _ _ _ (λ ok. read (ltb-false (length left) 17 long) (and_left _ _ ok)) (λ _. none)
   where
-    Holds : TimeRead → Type 0
+    Holds : Read Time → Type 0
     Holds r = Timed r.value.octets
 
     left : List ℕ
@@ -108,7 +107,7 @@ span-inside n body c =
     if-cases Holds _ _ _ (λ _. omega arith) λ some.
     omega (arith, eqb-false n 0 some, simp length-drop at (ltb-false (length (drop c.at body)) n room))
   where
-    Holds : SpanRead → Type 0
+    Holds : Read Span → Type 0
     Holds r = Inside r.value body
 
 span-refused : (n : ℕ) (body : List ℕ) (c : Cursor) → refused c ≡ true → (span_at n body c).value.len ≡ 0

@@ -1,2 +1,3 @@
+pub mod StatusLaws
 pub mod FieldLaws
 pub mod CommandLaws

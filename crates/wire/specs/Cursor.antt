@@ -3,7 +3,10 @@
 use Rattle.std.specs.Prelude.{ℕ, ◌+◌, Bool, not, ◌&&◌, List, length, ltb, eqb}
 use Rattle.octets.specs.Choice.{when◌then◌else◌}
 use Rattle.wire.specs.Status.{invalid_command_length}
-use Rattle.wire.specs.declared.cursor.Cursor.{Cursor}
+
+pub record Cursor : Type 0 where
+  pub at : ℕ
+  pub status : ℕ
 
 abbrev pub start : Cursor
 start = record { at = 0; status = 0 }

@@ -1,5 +1,7 @@
 -- Values of a response's command_status: 002's 7.1 names them in this order, document 01 gives the numbers.
 use Rattle.std.specs.Prelude.{ℕ}
+use Rattle.wire.specs.declared.status.Status.{Status}
+use Rattle.wire.specs.declared.status.Status.TheVariants.{InvalidMessageLength, InvalidCommandLength, InvalidCommandId, InvalidBindStatus, AlreadyBound, InvalidPriority, InvalidRegistered, SystemError, InvalidParameter, InvalidSource, InvalidDestination, InvalidMessageId, InvalidPassword, CannotCancel, CannotReplace, QueueFull}
 
 abbrev pub invalid_message_length : ℕ
 invalid_message_length = 1
@@ -48,3 +50,22 @@ cannot_replace = 19
 
 abbrev pub queue_full : ℕ
 queue_full = 20
+
+-- the number of each, none of them 0, which is the status of what isn't refused
+abbrev pub code : Status → ℕ
+code InvalidMessageLength = invalid_message_length
+code InvalidCommandLength = invalid_command_length
+code InvalidCommandId = invalid_command_id
+code InvalidBindStatus = invalid_bind_status
+code AlreadyBound = already_bound
+code InvalidPriority = invalid_priority
+code InvalidRegistered = invalid_registered
+code SystemError = system_error
+code InvalidParameter = invalid_parameter
+code InvalidSource = invalid_source
+code InvalidDestination = invalid_destination
+code InvalidMessageId = invalid_message_id
+code InvalidPassword = invalid_password
+code CannotCancel = cannot_cancel
+code CannotReplace = cannot_replace
+code QueueFull = queue_full

@@ -1,34 +1,61 @@
 // Values of a response's command_status (002, 7.1), with document 01's numbers.
+ghost use Rattle.std.specs.Prelude.{◌≡◌};
+ghost use Rattle.wire.specs.Status.{code};
+
+// What refuses a request.
+#[derive(Clone, Copy, Debug, PartialEq, Eq)]
+pub enum Status {
+    InvalidMessageLength = 1,
+    InvalidCommandLength = 2,
+    InvalidCommandId = 3,
+    InvalidBindStatus = 4,
+    AlreadyBound = 5,
+    InvalidPriority = 6,
+    InvalidRegistered = 7,
+    SystemError = 8,
+    InvalidParameter = 9,
+    InvalidSource = 10,
+    InvalidDestination = 11,
+    InvalidMessageId = 12,
+    InvalidPassword = 13,
+    CannotCancel = 17,
+    CannotReplace = 19,
+    QueueFull = 20,
+}
+
+impl Status {
+    pub fn code(self) -> u8
+        ensures { result ≡ code self }
+    {
+        self as u8
+    }
+}
+
+// The status of what isn't refused, and the others' numbers where an octet is at hand.
 pub const OK: u8 = 0;
 
-pub const INVALID_MESSAGE_LENGTH: u8 = 1;
+pub const INVALID_COMMAND_LENGTH: u8 = Status::InvalidCommandLength as u8;
 
-pub const INVALID_COMMAND_LENGTH: u8 = 2;
+pub const INVALID_COMMAND_ID: u8 = Status::InvalidCommandId as u8;
 
-pub const INVALID_COMMAND_ID: u8 = 3;
+pub const INVALID_BIND_STATUS: u8 = Status::InvalidBindStatus as u8;
 
-pub const INVALID_BIND_STATUS: u8 = 4;
+pub const ALREADY_BOUND: u8 = Status::AlreadyBound as u8;
 
-pub const ALREADY_BOUND: u8 = 5;
+pub const SYSTEM_ERROR: u8 = Status::SystemError as u8;
 
-pub const INVALID_PRIORITY: u8 = 6;
+pub const INVALID_PARAMETER: u8 = Status::InvalidParameter as u8;
 
-pub const INVALID_REGISTERED: u8 = 7;
+pub const INVALID_SOURCE: u8 = Status::InvalidSource as u8;
 
-pub const SYSTEM_ERROR: u8 = 8;
+pub const INVALID_DESTINATION: u8 = Status::InvalidDestination as u8;
 
-pub const INVALID_PARAMETER: u8 = 9;
+pub const INVALID_MESSAGE_ID: u8 = Status::InvalidMessageId as u8;
 
-pub const INVALID_SOURCE: u8 = 10;
+pub const INVALID_PASSWORD: u8 = Status::InvalidPassword as u8;
 
-pub const INVALID_DESTINATION: u8 = 11;
+pub const CANNOT_CANCEL: u8 = Status::CannotCancel as u8;
 
-pub const INVALID_MESSAGE_ID: u8 = 12;
+pub const CANNOT_REPLACE: u8 = Status::CannotReplace as u8;
 
-pub const INVALID_PASSWORD: u8 = 13;
-
-pub const CANNOT_CANCEL: u8 = 17;
-
-pub const CANNOT_REPLACE: u8 = 19;
-
-pub const QUEUE_FULL: u8 = 20;
+pub const QUEUE_FULL: u8 = Status::QueueFull as u8;

@@ -2,20 +2,20 @@
 use mathlib.Core.Path.{sym, ◌∙◌, subst}
 use Prim.Native.Nat.{◌<◌}
 use native.Mathlib.Omega.{arith}
-use borrow.Author.Tests.{eq-eqb, ne_eqb}
 use Rattle.octets.specs.Choice.{when◌then◌else◌}
+use Rattle.wire.proofs.StatusLaws.{code-not_zero}
 use Rattle.octets.proofs.LentLaws.{held}
 use Rattle.store.specs.Places.{Below}
 use Rattle.open.specs.Open.{bind_to}
 use Rattle.open.proofs.bind_to.Goals as goal
 
-pub returns-then-status-ne0 : goal.returns-then-status-ne0
+pub returns-in-Err : goal.returns-in-Err
 unfolding bind_to when◌then◌else◌
-returns-then-status-ne0 c = rw (← c.read_bind-read.ensures.0, ne_eqb _ _ c.if-status-ne0.true) c.not_bound.ensures
+returns-in-Err c = rw (c.in-Err.ensures.read, code-not_zero c.in-Err.status, ← c.code.ensures) c.not_bound.ensures
 
 pub returns-in_default : goal.returns-in_default
 unfolding bind_to when◌then◌else◌
-returns-in_default c = rw (← c.read_bind-read.ensures.0, eq-eqb _ _ c.if-status-ne0.false, ← (held c.octets_of.ensures), ← (held c.octets_of-2.ensures), sym c.find_named.ensures.0 ∙ c.in_default.is) c.not_bound-in_default.ensures
+returns-in_default c = rw (c.in-Ok.ensures.read.0, c.in-Ok.ensures.read.1, ← (held c.octets_of.ensures), ← (held c.octets_of-2.ensures), sym c.find_named.ensures.0 ∙ c.in_default.is) c.not_bound-in_default.ensures
 
 pub record_of-record-requires : goal.record_of-record-requires
 record_of-record-requires c = let b : c.in-Some.a < 8 = subst (Below 8) c.in-Some.is c.find_named.ensures.1 in omega arith
@@ -25,8 +25,8 @@ overflow_cast-a c = let b : c.in-Some.a < 8 = subst (Below 8) c.in-Some.is c.fin
 
 pub returns-then-is_password : goal.returns-then-is_password
 unfolding bind_to when◌then◌else◌
-returns-then-is_password c = rw (← c.read_bind-read.ensures.0, eq-eqb _ _ c.if-status-ne0.false, ← (held c.octets_of.ensures), ← (held c.octets_of-2.ensures), sym c.find_named.ensures.0 ∙ c.in-Some.is, ← (held c.octets_of-3.ensures), ← (held c.record_of-record.ensures.0), sym c.is_password.ensures ∙ c.if-is_password.true, c.leg_of.ensures)
+returns-then-is_password c = rw (c.in-Ok.ensures.read.0, c.in-Ok.ensures.read.1, ← (held c.octets_of.ensures), ← (held c.octets_of-2.ensures), sym c.find_named.ensures.0 ∙ c.in-Some.is, ← (held c.octets_of-3.ensures), ← (held c.record_of-record.ensures.0), sym c.is_password.ensures ∙ c.if-is_password.true, c.leg_of.ensures)
 
 pub returns-else-is_password : goal.returns-else-is_password
 unfolding bind_to when◌then◌else◌
-returns-else-is_password c = rw (← c.read_bind-read.ensures.0, eq-eqb _ _ c.if-status-ne0.false, ← (held c.octets_of.ensures), ← (held c.octets_of-2.ensures), sym c.find_named.ensures.0 ∙ c.in-Some.is, ← (held c.octets_of-3.ensures), ← (held c.record_of-record.ensures.0), sym c.is_password.ensures ∙ c.if-is_password.false) c.not_bound-else-is_password.ensures
+returns-else-is_password c = rw (c.in-Ok.ensures.read.0, c.in-Ok.ensures.read.1, ← (held c.octets_of.ensures), ← (held c.octets_of-2.ensures), sym c.find_named.ensures.0 ∙ c.in-Some.is, ← (held c.octets_of-3.ensures), ← (held c.record_of-record.ensures.0), sym c.is_password.ensures ∙ c.if-is_password.false) c.not_bound-else-is_password.ensures

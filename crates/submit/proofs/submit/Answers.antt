@@ -1,21 +1,21 @@
 -- `submit::submit` meets its contract. Assumes nothing.
 use mathlib.Core.Path.{sym, ◌∙◌}
-use borrow.Author.Tests.{eq-eqb, ne_eqb}
 use Rattle.octets.specs.Choice.{when◌then◌else◌}
+use Rattle.wire.proofs.StatusLaws.{code-not_zero}
 use Rattle.submit.specs.Submit.{submitted}
 use Rattle.submit.proofs.submit.Goals as goal
 
-pub returns-then-status-ne0 : goal.returns-then-status-ne0
+pub returns-in-Err : goal.returns-in-Err
 unfolding submitted when◌then◌else◌
-returns-then-status-ne0 c = rw (← c.read_submit-read.ensures.0, ne_eqb _ _ c.if-status-ne0.true, c.refuse.ensures)
+returns-in-Err c = rw (c.in-Err.ensures.read, code-not_zero c.in-Err.status, ← c.code.ensures, c.refuse.ensures)
 
 pub returns-then-is_none : goal.returns-then-is_none
 unfolding submitted when◌then◌else◌
-returns-then-is_none c = rw (← c.read_submit-read.ensures.0, eq-eqb _ _ c.if-status-ne0.false, sym c.is_none.ensures ∙ c.if-is_none.true, c.refuse-then-is_none.ensures)
+returns-then-is_none c = rw (c.in-Ok.ensures.read.0, c.in-Ok.ensures.read.1, sym c.is_none.ensures ∙ c.if-is_none.true, c.refuse-then-is_none.ensures)
 
 pub store_in-requires : goal.store_in-requires
-store_in-requires c = (c.requires.1, c.read_submit-read.ensures.1)
+store_in-requires c = (c.requires.1, c.in-Ok.ensures.inside)
 
 pub returns : goal.returns
 unfolding submitted when◌then◌else◌
-returns c = rw (← c.read_submit-read.ensures.0, eq-eqb _ _ c.if-status-ne0.false, sym c.is_none.ensures ∙ c.if-is_none.false, ← c.source_for-source.ensures) c.store_in.ensures
+returns c = rw (c.in-Ok.ensures.read.0, c.in-Ok.ensures.read.1, sym c.is_none.ensures ∙ c.if-is_none.false, ← c.source_for-source.ensures) c.store_in.ensures

@@ -1,13 +1,13 @@
 -- `account::query::query` meets its contract. Assumes nothing.
-use borrow.Author.Tests.{eq-eqb, ne_eqb}
 use Rattle.octets.specs.Choice.{when◌then◌else◌}
+use Rattle.wire.proofs.StatusLaws.{code-not_zero}
 use Rattle.account.specs.Query.{queried}
 use Rattle.account.proofs.query.query.Goals as goal
 
-pub returns-then-status-ne0 : goal.returns-then-status-ne0
+pub returns-in-Err : goal.returns-in-Err
 unfolding queried when◌then◌else◌
-returns-then-status-ne0 c = (rw (← c.read_query-read.ensures, ne_eqb _ _ c.if-status-ne0.true), tt)
+returns-in-Err c = (rw (c.in-Err.ensures, code-not_zero c.in-Err.status, ← c.code.ensures), tt)
 
-pub returns : goal.returns
+pub returns-in-Ok : goal.returns-in-Ok
 unfolding queried when◌then◌else◌
-returns c = (rw (← c.read_query-read.ensures, eq-eqb _ _ c.if-status-ne0.false) c.look_up.ensures.0, c.look_up.ensures.1)
+returns-in-Ok c = (rw (c.in-Ok.ensures.0, c.in-Ok.ensures.1) c.look_up.ensures.0, c.look_up.ensures.1)

@@ -1,11 +1,58 @@
--- `requests::replace::read_replace` meets its contract. Assumes nothing.
-use Rattle.wire.proofs.FieldLaws.{short-within}
+-- `requests::replace::read_replace` meets its contract: the fields before the refused one rewrite, and behind it none is looked at. Assumes nothing.
+use mathlib.Core.Path.{refl}
+use Rattle.std.proofs.lemmas.Result.{err_from_is_err_and}
+use Rattle.wire.proofs.FieldLaws.{address-behind, octet-behind, short-behind, time-behind, end-behind}
 use Rattle.requests.specs.Replace.{replace_of}
 use Rattle.requests.proofs.replace.read_replace.Goals as goal
 
-pub returns : goal.returns
+pub returns-in_err-id-clause-read : goal.returns-in_err-id-clause-read
 unfolding replace_of
-returns c = (
-  rw (← c.start-c0.ensures, ← c.read_id-id.ensures, ← c.read_address-source.ensures, ← c.read_time-schedule.ensures, ← c.read_time-validity.ensures, ← c.read_octet-registered.ensures, ← c.read_octet-default.ensures, ← c.read_short-text.ensures.0, ← c.end-status.ensures),
-  record { text = c.read_short-text.ensures.1; text_fits = rw c.read_short-text.ensures.0 (short-within _ _ _) },
-)
+returns-in_err-id-clause-read c =
+    let p = err_from_is_err_and c.from_residual.result c.from_residual.ensures.1 in
+    rw (p.1, p.2, ← c.of-fields.ensures.0, ← c.of-fields.ensures.1, c.in_err-id.ensures.read) (simp (address-behind, octet-behind, short-behind, time-behind, end-behind))
+
+pub returns-in_err-source-clause-read : goal.returns-in_err-source-clause-read
+unfolding replace_of
+returns-in_err-source-clause-read c =
+    let p = err_from_is_err_and c.from_residual-in_err-source.result c.from_residual-in_err-source.ensures.1 in
+    rw (p.1, p.2, ← c.of-fields.ensures.0, ← c.of-fields.ensures.1, c.in_ok-id.ensures.read, ← c.in_ok-id.ensures.kept, c.in_err-source.ensures.read) (simp (octet-behind, short-behind, time-behind, end-behind))
+
+pub returns-in_err-schedule-clause-read : goal.returns-in_err-schedule-clause-read
+unfolding replace_of
+returns-in_err-schedule-clause-read c =
+    let p = err_from_is_err_and c.from_residual-in_err-schedule.result c.from_residual-in_err-schedule.ensures.1 in
+    rw (p.1, p.2, ← c.of-fields.ensures.0, ← c.of-fields.ensures.1, c.in_ok-id.ensures.read, ← c.in_ok-id.ensures.kept, c.in_ok-source.ensures.read, ← c.in_ok-source.ensures.kept, c.in_err-schedule.ensures.read) (simp (octet-behind, short-behind, time-behind, end-behind))
+
+pub returns-in_err-validity-clause-read : goal.returns-in_err-validity-clause-read
+unfolding replace_of
+returns-in_err-validity-clause-read c =
+    let p = err_from_is_err_and c.from_residual-in_err-validity.result c.from_residual-in_err-validity.ensures.1 in
+    rw (p.1, p.2, ← c.of-fields.ensures.0, ← c.of-fields.ensures.1, c.in_ok-id.ensures.read, ← c.in_ok-id.ensures.kept, c.in_ok-source.ensures.read, ← c.in_ok-source.ensures.kept, c.in_ok-schedule.ensures.read, ← c.in_ok-schedule.ensures.kept, c.in_err-validity.ensures.read) (simp (octet-behind, short-behind, end-behind))
+
+pub returns-in_err-registered-clause-read : goal.returns-in_err-registered-clause-read
+unfolding replace_of
+returns-in_err-registered-clause-read c =
+    let p = err_from_is_err_and c.from_residual-in_err-registered.result c.from_residual-in_err-registered.ensures.1 in
+    rw (p.1, p.2, ← c.of-fields.ensures.0, ← c.of-fields.ensures.1, c.in_ok-id.ensures.read, ← c.in_ok-id.ensures.kept, c.in_ok-source.ensures.read, ← c.in_ok-source.ensures.kept, c.in_ok-schedule.ensures.read, ← c.in_ok-schedule.ensures.kept, c.in_ok-validity.ensures.read, ← c.in_ok-validity.ensures.kept, c.in_err-registered.ensures.read) (simp (octet-behind, short-behind, end-behind))
+
+pub returns-in_err-default-clause-read : goal.returns-in_err-default-clause-read
+unfolding replace_of
+returns-in_err-default-clause-read c =
+    let p = err_from_is_err_and c.from_residual-in_err-default.result c.from_residual-in_err-default.ensures.1 in
+    rw (p.1, p.2, ← c.of-fields.ensures.0, ← c.of-fields.ensures.1, c.in_ok-id.ensures.read, ← c.in_ok-id.ensures.kept, c.in_ok-source.ensures.read, ← c.in_ok-source.ensures.kept, c.in_ok-schedule.ensures.read, ← c.in_ok-schedule.ensures.kept, c.in_ok-validity.ensures.read, ← c.in_ok-validity.ensures.kept, c.in_ok-registered.ensures.read, ← c.in_ok-registered.ensures.kept, c.in_err-default.ensures.read) (simp (short-behind, end-behind))
+
+pub returns-in_err-text-clause-read : goal.returns-in_err-text-clause-read
+unfolding replace_of
+returns-in_err-text-clause-read c =
+    let p = err_from_is_err_and c.from_residual-in_err-text.result c.from_residual-in_err-text.ensures.1 in
+    rw (p.1, p.2, ← c.of-fields.ensures.0, ← c.of-fields.ensures.1, c.in_ok-id.ensures.read, ← c.in_ok-id.ensures.kept, c.in_ok-source.ensures.read, ← c.in_ok-source.ensures.kept, c.in_ok-schedule.ensures.read, ← c.in_ok-schedule.ensures.kept, c.in_ok-validity.ensures.read, ← c.in_ok-validity.ensures.kept, c.in_ok-registered.ensures.read, ← c.in_ok-registered.ensures.kept, c.in_ok-default.ensures.read, ← c.in_ok-default.ensures.kept, c.in_err-text.ensures.read) (simp end-behind)
+
+pub returns-in_err-end-clause-read : goal.returns-in_err-end-clause-read
+unfolding replace_of
+returns-in_err-end-clause-read c =
+    let p = err_from_is_err_and c.from_residual-in_err-end.result c.from_residual-in_err-end.ensures.1 in
+    rw (p.1, p.2, ← c.of-fields.ensures.0, ← c.of-fields.ensures.1, c.in_ok-id.ensures.read, ← c.in_ok-id.ensures.kept, c.in_ok-source.ensures.read, ← c.in_ok-source.ensures.kept, c.in_ok-schedule.ensures.read, ← c.in_ok-schedule.ensures.kept, c.in_ok-validity.ensures.read, ← c.in_ok-validity.ensures.kept, c.in_ok-registered.ensures.read, ← c.in_ok-registered.ensures.kept, c.in_ok-default.ensures.read, ← c.in_ok-default.ensures.kept, c.in_ok-text.ensures.read, ← c.in_ok-text.ensures.kept) c.in_err-end.ensures
+
+pub returns-clause-read : goal.returns-clause-read
+unfolding replace_of
+returns-clause-read c = rw (← c.of-fields.ensures.0, ← c.of-fields.ensures.1, c.in_ok-id.ensures.read, ← c.in_ok-id.ensures.kept, c.in_ok-source.ensures.read, ← c.in_ok-source.ensures.kept, c.in_ok-schedule.ensures.read, ← c.in_ok-schedule.ensures.kept, c.in_ok-validity.ensures.read, ← c.in_ok-validity.ensures.kept, c.in_ok-registered.ensures.read, ← c.in_ok-registered.ensures.kept, c.in_ok-default.ensures.read, ← c.in_ok-default.ensures.kept, c.in_ok-text.ensures.read, ← c.in_ok-text.ensures.kept) (c.in_ok-end.ensures, refl)
