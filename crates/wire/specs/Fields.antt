@@ -82,7 +82,7 @@ address_at bad body c =
 
 -- ---- a message id
 
-unfoldable pub id_at : List ℕ → Cursor → Read Option ℕ
+unfoldable pub id_at : List ℕ → Cursor → Read (Option ℕ)
 id_at body c =
     let text = text_at MessageIdOrNone 9 invalid_message_id body c in
     record { value = message_id (octets_of text.value body); next = text.next }
