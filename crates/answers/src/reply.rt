@@ -19,7 +19,7 @@ pub fn put_header(space: &mut [u8], size: u32, id: u32, status: u8, sequence: u3
 {
     octets::number::put_number(space, 0, size);
     octets::number::put_number(space, 4, id);
-    octets::number::put_number(space, 8, octets::number::wide(status));
+    octets::number::put_number(space, 8, u32::from(status));
     octets::number::put_number(space, 12, sequence);
 }
 

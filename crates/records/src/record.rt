@@ -79,7 +79,7 @@ fn is_mark_ok(r: &[u8]) -> bool
     ensures { result ≡ mark_ok r.now }
 {
     let mark = r[layout::MARK];
-    let state = octets::number::wide(r[layout::STATE]);
+    let state = u32::from(r[layout::STATE]);
     (mark == 0) | ((mark == 1) & (r[layout::REGISTERED] == 1) & is_within(2, 5, state))
 }
 
@@ -87,7 +87,7 @@ fn is_message_ok(last: u32, r: &[u8]) -> bool
     requires { length r.now ≡ record_size }
     ensures { result ≡ message_ok last r.now }
 {
-    is_within(1, 5, octets::number::wide(r[layout::STATE]))
+    is_within(1, 5, u32::from(r[layout::STATE]))
         & is_within(1, last, octets::number::number_at(r, layout::ID))
         & are_fields_ok(r)
         & is_end_ok(r)

@@ -4,4 +4,4 @@ use Rattle.records.proofs.record.is_mark_ok.Goals as goal
 
 pub returns : goal.returns
 unfolding mark_ok
-returns c = rw (c.is_within.ensures, c.wide-state.ensures.0)
+returns c = rw (c.is_within.ensures, c.from-state.ensures)
