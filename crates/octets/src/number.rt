@@ -5,13 +5,6 @@ ghost use Rattle.octets.specs.Number.{number, octets4, hex_digit, hex8};
 
 use crate::stretch;
 
-// An octet as a wider number.
-pub fn wide(x: u8) -> u32
-    ensures { (result ≡ x) × (result < 256) }
-{
-    x as u32
-}
-
 // The number in the four octets from `at` on.
 pub fn number_at(s: &[u8], at: usize) -> u32
     requires { at + 4 ≤ length s.now }
