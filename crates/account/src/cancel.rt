@@ -3,12 +3,13 @@ ghost use Rattle.std.specs.Prelude.{◌≡◌, ◌<◌, length};
 ghost use Rattle.forms.specs.Time.{time_length};
 ghost use Rattle.records.specs.Layout.{places, part_size};
 ghost use Rattle.records.specs.Book.{book_record_size};
+ghost use Rattle.wire.specs.Status.{outcome_status};
 ghost use Rattle.store.specs.Places.{record_at, on_place, on_places};
 ghost use Rattle.account.specs.Cancel.{changed, cancellable, cancelled_one, deleted_if, cancelled_all, cancelled_by, cancelled};
 
 use forms::field;
 use records::layout;
-use wire::status;
+use wire::status::Status;
 
 const DELETED: u8 = 4;
 
@@ -38,18 +39,18 @@ fn cancel_one(
     source: &[u8; field::ADDRESS_SIZE],
     destination: &[u8; field::ADDRESS_SIZE],
     stamp: &[u8],
-) -> u8
+) -> Result<(), Status>
     requires { (length part.old ≡ part_size) × (length stamp.now ≡ time_length) }
-    ensures { changed result part.new ≡ cancelled_one id source.now destination.now stamp.now part.old }
+    ensures { changed (outcome_status result) part.new ≡ cancelled_one id source.now destination.now stamp.now part.old }
 {
     let Some(k) = store::search::find_id(part, id) else {
-        return status::INVALID_MESSAGE_ID;
+        return Err(Status::InvalidMessageId);
     };
     if !is_cancellable(part, k, source, destination) {
-        return status::CANNOT_CANCEL;
+        return Err(Status::CannotCancel);
     }
     changes::finish(part, k, DELETED, 0, stamp);
-    status::OK
+    Ok(())
 }
 
 fn delete_if(
@@ -86,18 +87,18 @@ fn cancel_all(
     source: &[u8; field::ADDRESS_SIZE],
     destination: &[u8; field::ADDRESS_SIZE],
     stamp: &[u8],
-) -> u8
+) -> Result<(), Status>
     requires { (length part.old ≡ part_size) × (length stamp.now ≡ time_length) }
-    ensures { changed result part.new ≡ cancelled_all source.now destination.now stamp.now part.old }
+    ensures { changed (outcome_status result) part.new ≡ cancelled_all source.now destination.now stamp.now part.old }
 {
     if destination[2] == 0 {
-        return status::INVALID_DESTINATION;
+        return Err(Status::InvalidDestination);
     }
     if store::search::find_pair(part, source, destination).is_none() {
-        return status::CANNOT_CANCEL;
+        return Err(Status::CannotCancel);
     }
     delete_all(part, source, destination, stamp);
-    status::OK
+    Ok(())
 }
 
 fn cancel_by(
@@ -106,9 +107,9 @@ fn cancel_by(
     source: &[u8; field::ADDRESS_SIZE],
     destination: &[u8; field::ADDRESS_SIZE],
     stamp: &[u8],
-) -> u8
+) -> Result<(), Status>
     requires { (length part.old ≡ part_size) × (length stamp.now ≡ time_length) }
-    ensures { changed result part.new ≡ cancelled_by id source.now destination.now stamp.now part.old }
+    ensures { changed (outcome_status result) part.new ≡ cancelled_by id source.now destination.now stamp.now part.old }
 {
     match id {
         None => cancel_all(part, source, destination, stamp),
@@ -116,19 +117,12 @@ fn cancel_by(
     }
 }
 
-pub fn cancel(book: &[u8], part: &mut [u8], stamp: &[u8], body: &[u8]) -> u8
+pub fn cancel(book: &[u8], part: &mut [u8], stamp: &[u8], body: &[u8]) -> Result<(), Status>
     requires { ((length book.now ≡ book_record_size) × (length part.old ≡ part_size)) × (length stamp.now ≡ time_length) }
-    ensures { changed result part.new ≡ cancelled book.now stamp.now body.now part.old }
+    ensures { changed (outcome_status result) part.new ≡ cancelled book.now stamp.now body.now part.old }
 {
-    let request = match requests::cancel::read_cancel(body) {
-        Ok(request) => request,
-        Err(status) => return status.code(),
-    };
-    let given = request.source;
-    let source = source::source_for(book, given);
-    let source_octets = source.octets;
+    let request = requests::cancel::read_cancel(body)?;
+    let source = source::source_for(book, request.source);
     let destination = request.destination;
-    let destination_octets = destination.octets;
-    let id = request.id;
-    cancel_by(part, id, &source_octets, &destination_octets, stamp)
+    cancel_by(part, request.id, &source.octets, &destination.octets, stamp)
 }

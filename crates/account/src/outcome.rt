@@ -4,7 +4,6 @@ ghost use Rattle.forms.specs.Time.{time_length};
 ghost use Rattle.records.specs.Layout.{part_size};
 ghost use Rattle.account.specs.Outcome.{told, reported};
 
-
 // Whether a waiting message has the id; if so it is finished.
 pub fn report(part: &mut [u8], stamp: &[u8], id: u32, state: u8, error: u8) -> bool
     requires { (length part.old ≡ part_size) × (length stamp.now ≡ time_length) }

@@ -3,56 +3,33 @@ ghost use Rattle.std.specs.Prelude.{◌≡◌, length};
 ghost use Rattle.records.specs.Layout.{part_size};
 ghost use Rattle.records.specs.Book.{book_record_size};
 ghost use Rattle.store.specs.Places.{OnePlace};
-ghost use Rattle.account.specs.Query.{looked_up, queried};
+ghost use Rattle.account.specs.Query.{looked_up, queried, asked};
 
 use records::layout;
 use requests::query::Query;
-use wire::status;
+use wire::status::Status;
 
-// The status, and the place of the record asked for.
-#[derive(Clone, Copy)]
-pub struct Asked {
-    pub status: u8,
-    pub place: Option<usize>,
-}
-
-fn look_up(book: &[u8], part: &[u8], q: Query) -> Asked
+fn look_up(book: &[u8], part: &[u8], q: Query) -> Result<usize, Status>
     requires { (length book.now ≡ book_record_size) × (length part.now ≡ part_size) }
-    ensures { (result ≡ looked_up book.now q part.now) × OnePlace result.place }
+    ensures { (asked result ≡ looked_up book.now q part.now) × OnePlace (asked result).place }
 {
-    let given = q.source;
-    let wanted = source::source_for(book, given);
-    let octets = wanted.octets;
-    let id = q.id;
-    let Some(k) = source::find_known(part, id) else {
-        return Asked {
-            status: status::INVALID_MESSAGE_ID,
-            place: None,
-        };
+    let wanted = source::source_for(book, q.source);
+    let Some(k) = source::find_known(part, q.id) else {
+        return Err(Status::InvalidMessageId);
     };
     let r = store::places::record_at(part, k);
-    if records::book::is_same_address(&r[layout::SOURCE..layout::DESTINATION], &octets) {
-        Asked {
-            status: status::OK,
-            place: Some(k),
-        }
+    if records::book::is_same_address(&r[layout::SOURCE..layout::DESTINATION], &wanted.octets) {
+        Ok(k)
     } else {
-        Asked {
-            status: status::INVALID_MESSAGE_ID,
-            place: None,
-        }
+        Err(Status::InvalidMessageId)
     }
 }
 
-pub fn query(book: &[u8], part: &[u8], body: &[u8]) -> Asked
+// The place of the record asked for.
+pub fn query(book: &[u8], part: &[u8], body: &[u8]) -> Result<usize, Status>
     requires { (length book.now ≡ book_record_size) × (length part.now ≡ part_size) }
-    ensures { (result ≡ queried book.now body.now part.now) × OnePlace result.place }
+    ensures { (asked result ≡ queried book.now body.now part.now) × OnePlace (asked result).place }
 {
-    match requests::query::read_query(body) {
-        Ok(q) => look_up(book, part, q),
-        Err(status) => Asked {
-            status: status.code(),
-            place: None,
-        },
-    }
+    let q = requests::query::read_query(body)?;
+    look_up(book, part, q)
 }

@@ -1,6 +1,7 @@
 // replace_sm.
 ghost use Rattle.std.specs.Prelude.{◌≡◌, ◌&&◌, ◌<◌, length};
 ghost use Rattle.requests.specs.Replace.{ReplaceInside};
+ghost use Rattle.wire.specs.Status.{outcome_status};
 ghost use Rattle.records.specs.Layout.{places, part_size, source_of};
 ghost use Rattle.records.specs.Book.{book_record_size, same_address};
 ghost use Rattle.store.specs.Places.{record_at};
@@ -12,7 +13,8 @@ use changes::Correction;
 use forms::field;
 use records::layout;
 use requests::replace::Replace;
-use wire::{fields, status};
+use wire::fields;
+use wire::status::Status;
 
 fn is_replaceable(part: &[u8], k: usize, source: &[u8; field::ADDRESS_SIZE]) -> bool
     requires { (length part.now ≡ part_size) × (k < places) }
@@ -23,42 +25,38 @@ fn is_replaceable(part: &[u8], k: usize, source: &[u8; field::ADDRESS_SIZE]) -> 
         & (r[layout::STATE] == 1)
 }
 
-fn replace_in(part: &mut [u8], source: &[u8; field::ADDRESS_SIZE], r: Replace, body: &[u8]) -> u8
+fn replace_in(
+    part: &mut [u8],
+    source: &[u8; field::ADDRESS_SIZE],
+    r: Replace,
+    body: &[u8],
+) -> Result<(), Status>
     requires { (length part.old ≡ part_size) × ReplaceInside r body.now }
-    ensures { changed result part.new ≡ replaced_in source.now r body.now part.old }
+    ensures { changed (outcome_status result) part.new ≡ replaced_in source.now r body.now part.old }
 {
-    let id = r.id;
-    let Some(k) = source::find_known(part, id) else {
-        return status::INVALID_MESSAGE_ID;
+    let Some(k) = source::find_known(part, r.id) else {
+        return Err(Status::InvalidMessageId);
     };
     if !is_replaceable(part, k, source) {
-        return status::CANNOT_REPLACE;
+        return Err(Status::CannotReplace);
     }
-    let sent_schedule = r.schedule;
-    let sent_validity = r.validity;
-    let schedule = sent_schedule.octets;
-    let validity = sent_validity.octets;
+    let schedule = r.schedule.octets;
+    let validity = r.validity.octets;
     let correction = Correction {
         schedule,
         validity,
         registered: r.registered,
         default: r.default,
     };
-    let text = r.text;
-    changes::correct(part, k, correction, fields::octets_of(body, text));
-    status::OK
+    changes::correct(part, k, correction, fields::octets_of(body, r.text));
+    Ok(())
 }
 
-pub fn replace(book: &[u8], part: &mut [u8], body: &[u8]) -> u8
+pub fn replace(book: &[u8], part: &mut [u8], body: &[u8]) -> Result<(), Status>
     requires { (length book.now ≡ book_record_size) × (length part.old ≡ part_size) }
-    ensures { changed result part.new ≡ replaced book.now body.now part.old }
+    ensures { changed (outcome_status result) part.new ≡ replaced book.now body.now part.old }
 {
-    let r = match requests::replace::read_replace(body) {
-        Ok(r) => r,
-        Err(status) => return status.code(),
-    };
-    let given = r.source;
-    let source = source::source_for(book, given);
-    let octets = source.octets;
-    replace_in(part, &octets, r, body)
+    let r = requests::replace::read_replace(body)?;
+    let source = source::source_for(book, r.source);
+    replace_in(part, &source.octets, r, body)
 }

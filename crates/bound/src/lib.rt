@@ -57,10 +57,16 @@ fn submit_turn(
         let written = fixed::no_submission(space, sequence);
         return spoken(consumed, written, last);
     }
-    let given = submit::submit(book, part, last, body);
-    let id = given.id;
-    let written = reply::submit(space, given.status, sequence, id);
-    spoken(consumed, written, given.last)
+    match submit::submit(book, part, last, body) {
+        Ok(given) => {
+            let written = reply::submit(space, status::OK, sequence, Some(given.id));
+            spoken(consumed, written, given.last)
+        }
+        Err(status) => {
+            let written = reply::submit(space, status.code(), sequence, None);
+            spoken(consumed, written, last)
+        }
+    }
 }
 
 fn wire_state(state: u8) -> u8
@@ -70,16 +76,16 @@ fn wire_state(state: u8) -> u8
 }
 
 // The reply to a query of the record at place k.
-fn write_found(part: &[u8], k: usize, status: u8, sequence: u32, space: &mut [u8]) -> usize
+fn write_found(part: &[u8], k: usize, sequence: u32, space: &mut [u8]) -> usize
     requires { ((length part.now ≡ part_size) × (k < places)) × (space_needed ≤ length space.old) }
-    ensures { wrote result space.new ≡ over (reply 0x80000003 status sequence (found_body (record_at k part.now))) space.old }
+    ensures { wrote result space.new ≡ over (reply 0x80000003 0 sequence (found_body (record_at k part.now))) space.old }
 {
     let r = store::places::record_at(part, k);
     let id = octets::number::number_at(r, layout::ID);
     let date = forms::field::text_of(&r[layout::FINAL_DATE..layout::ERROR_CODE]);
     let state = wire_state(r[layout::STATE]);
     let error = r[layout::ERROR_CODE];
-    reply::query(space, status, sequence, Some(id), date, state, error)
+    reply::query(space, status::OK, sequence, Some(id), date, state, error)
 }
 
 fn query_turn(
@@ -99,13 +105,13 @@ fn query_turn(
         let written = fixed::no_query(space, status::INVALID_BIND_STATUS, sequence);
         return spoken(consumed, written, last);
     }
-    let asked = account::query::query(book, part, body);
-    let Some(k) = asked.place else {
-        let written = fixed::no_query(space, asked.status, sequence);
-        return spoken(consumed, written, last);
-    };
-    let written = write_found(part, k, asked.status, sequence, space);
-    spoken(consumed, written, last)
+    match account::query::query(book, part, body) {
+        Ok(k) => spoken(consumed, write_found(part, k, sequence, space), last),
+        Err(status) => {
+            let written = fixed::no_query(space, status.code(), sequence);
+            spoken(consumed, written, last)
+        }
+    }
 }
 
 fn cancel_turn(
@@ -126,8 +132,8 @@ fn cancel_turn(
         let written = fixed::wrong_state(space, 0x8000_0008, sequence);
         return spoken(consumed, written, last);
     }
-    let status = account::cancel::cancel(book, part, stamp, body);
-    let written = reply::bare(space, 0x8000_0008, status, sequence);
+    let cancelled = account::cancel::cancel(book, part, stamp, body);
+    let written = reply::bare(space, 0x8000_0008, status::of(cancelled), sequence);
     spoken(consumed, written, last)
 }
 
@@ -148,8 +154,8 @@ fn replace_turn(
         let written = fixed::wrong_state(space, 0x8000_0007, sequence);
         return spoken(consumed, written, last);
     }
-    let status = account::replace::replace(book, part, body);
-    let written = reply::bare(space, 0x8000_0007, status, sequence);
+    let replaced = account::replace::replace(book, part, body);
+    let written = reply::bare(space, 0x8000_0007, status::of(replaced), sequence);
     spoken(consumed, written, last)
 }
 
@@ -157,13 +163,13 @@ fn unbind_turn(consumed: usize, sequence: u32, body: &[u8], space: &mut [u8], la
     requires { space_needed ≤ length space.old }
     ensures { acts result [] space.new ≡ replying consumed 0x80000006 sequence (unbind_turn body.now (storing [] last)) space.old }
 {
-    let status = requests::plain::read_plain(body);
-    let written = reply::bare(space, 0x8000_0006, status, sequence);
+    let read = plain::read_plain(body);
+    let written = reply::bare(space, 0x8000_0006, status::of(read), sequence);
     Acted {
         consumed,
         written,
         last,
-        ends: status == 0,
+        ends: read.is_ok(),
     }
 }
 
@@ -212,7 +218,7 @@ fn command(
         ),
         0x15 => spoken(
             n,
-            fixed::link(space, plain::read_plain(body), sequence),
+            fixed::link(space, status::of(plain::read_plain(body)), sequence),
             last,
         ),
         0x8000_0000..=0xFFFF_FFFF => spoken(n, 0, last),

@@ -1,7 +1,8 @@
 -- Octets on an open session (document 01, "From octets to a response" and "Effects"): it has no account, and the table has no say.
 use Rattle.std.specs.Prelude.{ℕ, Bool, true, false, not, List, eqb, length, take, drop, None, Result, Ok, Err}
 use Rattle.octets.specs.Choice.{when◌then◌else◌}
-use Rattle.wire.specs.Status.{invalid_command_id, invalid_bind_status, invalid_password}
+use Rattle.wire.specs.Status.{invalid_command_id, invalid_bind_status, invalid_password, code}
+use Rattle.wire.specs.declared.status.Status.{Status}
 use Rattle.wire.specs.Frame.{frame_of, header_of}
 use Rattle.wire.specs.Command.{Command, BindReceiver, BindTransmitter, QuerySm, SubmitSm, Unbind, ReplaceSm, CancelSm, EnquireLink, Response, Unknown, response_to, command_of}
 use Rattle.wire.specs.Fields.{octets_of}
@@ -18,11 +19,14 @@ use Rattle.session.specs.declared.Entry.TheVariants.{Open, Transmitter, Receiver
 use Rattle.session.specs.declared.refusal.Refusal.{Refusal}
 use Rattle.session.specs.Refusal.{number_of}
 use Rattle.isolation.specs.Platform.{Front}
-use Rattle.open.specs.declared.Bound.{Bound}
 use Rattle.open.specs.declared.Fronted.{Fronted}
 use Rattle.answers.specs.Answer.{Octets, Answer, taken, replied_to, silent, nak_length}
 
 -- ---- bind: the lowest used, well-formed book record with equal system_id and system_type; no such record or an unequal password: 13
+
+pub record Bound : Type 0 where
+  pub status : ℕ
+  pub entry : Entry
 
 abbrev pub not_bound : ℕ → Bound
 not_bound status = record { status = status; entry = Open }
@@ -78,7 +82,11 @@ open_frame book octets space (Whole n) = open_pdu book (take n octets) space
 unfoldable pub on_open : List ℕ → Octets → Front Answer
 on_open book x = open_frame book x.octets x.space (frame_of x.octets)
 
--- what the code gives, as that: of a PDU, and of the octets
+-- what the code gives, as that: of a bind, of a PDU, and of the octets
+abbrev pub binds : Result Entry Status → Bound
+binds (Ok entry) = record { status = 0; entry = entry }
+binds (Err status) = not_bound (code status)
+
 abbrev pub answers : Fronted → List ℕ → Front Answer
 answers r space = record { answer = taken 0 r.consumed r.written space; after = r.entry }
 

@@ -4,7 +4,7 @@
 ghost use Rattle.std.specs.Prelude.{◌≡◌, ◌≤◌, length};
 ghost use Rattle.answers.specs.Reply.{space_needed};
 ghost use Rattle.records.specs.Book.{book_size};
-ghost use Rattle.open.specs.Open.{leg_of, bind_to, open_bind, open_command, open_pdu, open_frame, answers, fronts};
+ghost use Rattle.open.specs.Open.{leg_of, bind_to, binds, open_bind, open_command, open_pdu, open_frame, answers, fronts};
 ghost use Rattle.wire.specs.Command.{command_of};
 ghost use Rattle.wire.specs.Frame.{frame_of};
 
@@ -13,14 +13,8 @@ use requests::plain;
 use session::Entry;
 use session::refusal::Refusal;
 use wire::frame::Frame;
+use wire::status::Status;
 use wire::{fields, frame, status};
-
-// What a bind comes to.
-#[derive(Clone, Copy)]
-pub struct Bound {
-    pub status: u8,
-    pub entry: Entry,
-}
 
 // What octets on an open session come to: nothing of the account's is at hand.
 #[derive(Clone, Copy)]
@@ -40,41 +34,25 @@ fn leg_of(receiver: bool, a: u8) -> Entry
     }
 }
 
-fn not_bound(status: u8) -> Bound
-    ensures { result ≡ record { status = status; entry = Entry.Open } }
-{
-    Bound {
-        status,
-        entry: Entry::Open,
-    }
-}
-
-fn bind_to(receiver: bool, book: &[u8], body: &[u8]) -> Bound
+// The session's entry, once it is bound.
+fn bind_to(receiver: bool, book: &[u8], body: &[u8]) -> Result<Entry, Status>
     requires { length book.now ≡ book_size }
-    ensures { result ≡ bind_to receiver book.now body.now }
+    ensures { binds result ≡ bind_to receiver book.now body.now }
 {
-    let request = match requests::bind::read_bind(body) {
-        Ok(request) => request,
-        Err(status) => return not_bound(status.code()),
-    };
-    let system = request.system;
-    let kind = request.kind;
-    let password = request.password;
-    let Some(a) = store::search::find_named(
+    let request = requests::bind::read_bind(body)?;
+    let found = store::search::find_named(
         book,
-        fields::octets_of(body, system),
-        fields::octets_of(body, kind),
-    ) else {
-        return not_bound(status::INVALID_PASSWORD);
+        fields::octets_of(body, request.system),
+        fields::octets_of(body, request.kind),
+    );
+    let Some(a) = found else {
+        return Err(Status::InvalidPassword);
     };
     let record = records::book::record_of(book, a);
-    if records::book::is_password(record, fields::octets_of(body, password)) {
-        Bound {
-            status: status::OK,
-            entry: leg_of(receiver, a as u8),
-        }
+    if records::book::is_password(record, fields::octets_of(body, request.password)) {
+        Ok(leg_of(receiver, a as u8))
     } else {
-        not_bound(status::INVALID_PASSWORD)
+        Err(Status::InvalidPassword)
     }
 }
 
@@ -91,12 +69,11 @@ fn open_bind(
     ensures { answers result space.new ≡ open_bind receiver id book.now consumed sequence body.now space.old }
 {
     let bound = bind_to(receiver, book, body);
-    let written = reply::bind(space, id, bound.status, sequence);
-    let entry = bound.entry;
+    let written = reply::bind(space, id, status::of(bound), sequence);
     Fronted {
         consumed,
         written,
-        entry,
+        entry: bound.unwrap_or(Entry::Open),
     }
 }
 
@@ -134,7 +111,7 @@ fn open_command(
         8 => stay(consumed, fixed::wrong_state(space, 0x8000_0008, sequence)),
         0x15 => stay(
             consumed,
-            fixed::link(space, plain::read_plain(body), sequence),
+            fixed::link(space, status::of(plain::read_plain(body)), sequence),
         ),
         0x8000_0000..=0xFFFF_FFFF => stay(consumed, 0),
         _ => stay(consumed, fixed::unknown(space, sequence)),

@@ -1,7 +1,8 @@
 -- submit_sm (document 01, "Effects").
-use Rattle.std.specs.Prelude.{ℕ, ◌+◌, not, List, eqb, None, Option, Some}
+use Rattle.std.specs.Prelude.{ℕ, ◌+◌, not, List, eqb, Option, Some, None, Result, Ok, Err}
 use Rattle.octets.specs.Choice.{when◌then◌else◌}
-use Rattle.wire.specs.Status.{system_error, invalid_destination, queue_full}
+use Rattle.wire.specs.Status.{system_error, invalid_destination, queue_full, code}
+use Rattle.wire.specs.declared.status.Status.{Status}
 use Rattle.wire.specs.Fields.{octets_of}
 use Rattle.requests.specs.Submit.{submit_of}
 use Rattle.requests.specs.declared.submit.Submit.{Submit}
@@ -19,10 +20,6 @@ pub record Submitted : Type 0 where
   pub id : Option ℕ
   pub part : List ℕ
   pub last : ℕ
-
--- the code's answer, with the part beside it
-abbrev pub gave : Given → List ℕ → Submitted
-gave g part = record { status = g.status; id = g.id; part = part; last = g.last }
 
 -- neither the part nor the last id changes
 abbrev pub refused : ℕ → List ℕ → ℕ → Submitted
@@ -81,3 +78,8 @@ submitted book body part last =
     when not (eqb read.status 0) then refused read.status part last
     else when no_address s.destination.octets then refused invalid_destination part last
     else stored (source_for book s.source.octets) s body part last
+
+-- what the code answers, with the part beside it, where this was the last id
+abbrev pub gave : ℕ → Result Given Status → List ℕ → Submitted
+gave last (Ok g) part = record { status = 0; id = Some g.id; part = part; last = g.last }
+gave last (Err status) part = refused (code status) part last

@@ -10,41 +10,28 @@ ghost use Rattle.submit.specs.Submit.{fields_of, added, to_replace, stored, subm
 
 use changes::Fields;
 use requests::submit::Submit;
+use wire::fields;
 use wire::fields::Address;
-use wire::{fields, status};
+use wire::status::Status;
 
 const LAST_OF_ALL: u32 = 0xFFFF_FFFF;
 
-// The status, the id returned, and the last id afterwards.
+// The id returned, and the last id afterwards.
 #[derive(Clone, Copy)]
 pub struct Given {
-    pub status: u8,
-    pub id: Option<u32>,
+    pub id: u32,
     pub last: u32,
-}
-
-fn refuse(status: u8, last: u32) -> Given
-    ensures { result ≡ record { status = status; id = None; last = last } }
-{
-    Given {
-        status,
-        id: None,
-        last,
-    }
 }
 
 fn fields_of(source: Address, s: Submit) -> Fields
     ensures { result ≡ fields_of source.octets s }
 {
-    let source_octets = source.octets;
-    let to = s.destination;
-    let destination = to.octets;
-    let sent_schedule = s.schedule;
-    let schedule = sent_schedule.octets;
-    let sent_validity = s.validity;
-    let validity = sent_validity.octets;
+    let from = source.octets;
+    let destination = s.destination.octets;
+    let schedule = s.schedule.octets;
+    let validity = s.validity.octets;
     Fields {
-        source: source_octets,
+        source: from,
         destination,
         esm: s.esm,
         protocol: s.protocol,
@@ -58,32 +45,26 @@ fn fields_of(source: Address, s: Submit) -> Fields
 }
 
 // A new id and a new place.
-fn add(part: &mut [u8], last: u32, source: Address, s: Submit, body: &[u8]) -> Given
+fn add(part: &mut [u8], last: u32, source: Address, s: Submit, body: &[u8]) -> Result<Given, Status>
     requires { (length part.old ≡ part_size) × SubmitInside s body.now }
-    ensures { gave result part.new ≡ added source.octets s body.now part.old last }
+    ensures { gave last result part.new ≡ added source.octets s body.now part.old last }
 {
     if last == LAST_OF_ALL {
-        return refuse(status::SYSTEM_ERROR, last);
+        return Err(Status::SystemError);
     }
     let Some(k) = store::search::find_new(part) else {
-        return refuse(status::QUEUE_FULL, last);
+        return Err(Status::QueueFull);
     };
     let id = last + 1;
-    let service = s.service;
-    let text = s.text;
     changes::put_new(
         part,
         k,
         id,
         fields_of(source, s),
-        fields::octets_of(body, service),
-        fields::octets_of(body, text),
+        fields::octets_of(body, s.service),
+        fields::octets_of(body, s.text),
     );
-    Given {
-        status: status::OK,
-        id: Some(id),
-        last: id,
-    }
+    Ok(Given { id, last: id })
 }
 
 // The record that the submission replaces.
@@ -91,46 +72,40 @@ fn find_replaced(part: &[u8], source: Address, s: Submit) -> Option<usize>
     requires { length part.now ≡ part_size }
     ensures { (result ≡ to_replace source.octets s part.now) × OnePlace result }
 {
-    let source_octets = source.octets;
-    let to = s.destination;
-    let destination = to.octets;
     if s.replace == 1 {
-        store::search::find_pair(part, &source_octets, &destination)
+        let destination = s.destination;
+        store::search::find_pair(part, &source.octets, &destination.octets)
     } else {
         None
     }
 }
 
-fn store_in(part: &mut [u8], last: u32, source: Address, s: Submit, body: &[u8]) -> Given
+fn store_in(
+    part: &mut [u8],
+    last: u32,
+    source: Address,
+    s: Submit,
+    body: &[u8],
+) -> Result<Given, Status>
     requires { (length part.old ≡ part_size) × SubmitInside s body.now }
-    ensures { gave result part.new ≡ stored source.octets s body.now part.old last }
+    ensures { gave last result part.new ≡ stored source.octets s body.now part.old last }
 {
     let Some(k) = find_replaced(part, source, s) else {
         return add(part, last, source, s, body);
     };
     let id = store::places::id_at(part, k);
-    let text = s.text;
-    changes::retext(part, k, s.default, fields::octets_of(body, text));
-    Given {
-        status: status::OK,
-        id: Some(id),
-        last,
-    }
+    changes::retext(part, k, s.default, fields::octets_of(body, s.text));
+    Ok(Given { id, last })
 }
 
-pub fn submit(book: &[u8], part: &mut [u8], last: u32, body: &[u8]) -> Given
+pub fn submit(book: &[u8], part: &mut [u8], last: u32, body: &[u8]) -> Result<Given, Status>
     requires { (length book.now ≡ book_record_size) × (length part.old ≡ part_size) }
-    ensures { gave result part.new ≡ submitted book.now body.now part.old last }
+    ensures { gave last result part.new ≡ submitted book.now body.now part.old last }
 {
-    let s = match requests::submit::read_submit(body) {
-        Ok(s) => s,
-        Err(status) => return refuse(status.code(), last),
-    };
-    let destination = s.destination;
-    if source::is_none(destination) {
-        return refuse(status::INVALID_DESTINATION, last);
+    let s = requests::submit::read_submit(body)?;
+    if source::is_none(s.destination) {
+        return Err(Status::InvalidDestination);
     }
-    let given = s.source;
-    let source = source::source_for(book, given);
+    let source = source::source_for(book, s.source);
     store_in(part, last, source, s, body)
 }

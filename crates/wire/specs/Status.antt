@@ -1,5 +1,5 @@
 -- Values of a response's command_status: 002's 7.1 names them in this order, document 01 gives the numbers.
-use Rattle.std.specs.Prelude.{ℕ}
+use Rattle.std.specs.Prelude.{ℕ, Result, Ok, Err}
 use Rattle.wire.specs.declared.status.Status.{Status}
 use Rattle.wire.specs.declared.status.Status.TheVariants.{InvalidMessageLength, InvalidCommandLength, InvalidCommandId, InvalidBindStatus, AlreadyBound, InvalidPriority, InvalidRegistered, SystemError, InvalidParameter, InvalidSource, InvalidDestination, InvalidMessageId, InvalidPassword, CannotCancel, CannotReplace, QueueFull}
 
@@ -69,3 +69,8 @@ code InvalidPassword = invalid_password
 code CannotCancel = cannot_cancel
 code CannotReplace = cannot_replace
 code QueueFull = queue_full
+
+-- of what a request comes to
+abbrev pub outcome_status : {A : Type 0} → Result A Status → ℕ
+outcome_status (Ok x) = 0
+outcome_status (Err status) = code status

@@ -1,6 +1,6 @@
 // Values of a response's command_status (002, 7.1), with document 01's numbers.
 ghost use Rattle.std.specs.Prelude.{◌≡◌};
-ghost use Rattle.wire.specs.Status.{code};
+ghost use Rattle.wire.specs.Status.{code, outcome_status};
 
 // What refuses a request.
 #[derive(Clone, Copy, Debug, PartialEq, Eq)]
@@ -28,6 +28,16 @@ impl Status {
         ensures { result ≡ code self }
     {
         self as u8
+    }
+}
+
+// The status of what a request comes to: 0 where it isn't refused.
+pub fn of<T: Drop>(outcome: Result<T, Status>) -> u8
+    ensures { result ≡ outcome_status outcome }
+{
+    match outcome {
+        Ok(_) => OK,
+        Err(status) => status.code(),
     }
 }
 

@@ -40,7 +40,7 @@ returns-in-8 c = rw (← c.read_header-header.ensures, c.in-8.is) (rw (drop-cut 
 
 pub returns-in-21 : goal.returns-in-21
 unfolding command_of replying when◌then◌else◌
-returns-in-21 c = rw (← c.read_header-header.ensures, c.in-21.is, ← (rw (drop-cut 16 c.args.pdu.now) at c.read_plain.ensures), ← c.link.ensures, c.spoken-in-21.ensures)
+returns-in-21 c = rw (← c.read_header-header.ensures, c.in-21.is, ← (rw (drop-cut 16 c.args.pdu.now) at c.read_plain.ensures), ← c.of.ensures, ← c.link.ensures, c.spoken-in-21.ensures)
 
 pub returns-in_default : goal.returns-in_default
 unfolding replying

@@ -1,9 +1,5 @@
 -- `bound::query_turn` meets its contract. Assumes nothing.
-use mathlib.Core.Path.{subst}
-use Prim.Native.Nat.{◌<◌}
-use native.Mathlib.Omega.{arith}
 use Rattle.octets.specs.Choice.{when◌then◌else◌}
-use Rattle.store.specs.Places.{OnePlace}
 use Rattle.bound.specs.Bound.{query_turn, replying}
 use Rattle.bound.proofs.query_turn.Goals as goal
 
@@ -11,13 +7,10 @@ pub returns-then-not-transmitter : goal.returns-then-not-transmitter
 unfolding query_turn replying when◌then◌else◌
 returns-then-not-transmitter c = rw (c.if-not-transmitter.true, ← c.no_query-written.ensures, c.spoken.ensures)
 
-pub returns-in_default : goal.returns-in_default
+pub returns-in-Ok : goal.returns-in-Ok
 unfolding query_turn replying when◌then◌else◌
-returns-in_default c = rw (c.if-not-transmitter.false, ← c.query-asked.ensures.0, c.in_default.is, ← c.no_query-written-in_default.ensures, c.spoken-in_default.ensures)
+returns-in-Ok c = rw (c.if-not-transmitter.false, ← c.in-Ok.ensures.0, ← c.write_found.ensures, c.spoken-in-Ok.ensures)
 
-pub write_found-written-requires : goal.write_found-written-requires
-write_found-written-requires c = let b : c.in-Some.k < 16 = subst OnePlace c.in-Some.is c.query-asked.ensures.1 in omega arith
-
-pub returns : goal.returns
+pub returns-in-Err : goal.returns-in-Err
 unfolding query_turn replying when◌then◌else◌
-returns c = rw (c.if-not-transmitter.false, ← c.query-asked.ensures.0, c.in-Some.is, ← c.write_found-written.ensures, c.spoken-2.ensures)
+returns-in-Err c = rw (c.if-not-transmitter.false, ← c.in-Err.ensures.0, ← c.code.ensures, ← c.no_query-written-in-Err.ensures, c.spoken-in-Err.ensures)

@@ -9,4 +9,4 @@ returns-then-not-transmitter c = rw (c.if-not-transmitter.true, ← c.wrong_stat
 
 pub returns : goal.returns
 unfolding replace_turn replying when◌then◌else◌
-returns c = rw (c.if-not-transmitter.false, ← c.replace-status.ensures, ← c.bare-written.ensures, c.spoken-2.ensures)
+returns c = rw (c.if-not-transmitter.false, ← c.replace-replaced.ensures, ← c.of.ensures, ← c.bare-written.ensures, c.spoken-2.ensures)

@@ -35,7 +35,7 @@ returns-in-8 c = rw (c.in-8.is, ← c.wrong_state-in-8.ensures, c.stay-in-8.ensu
 
 pub returns-in-21 : goal.returns-in-21
 unfolding command_of when◌then◌else◌
-returns-in-21 c = rw (c.in-21.is, ← c.read_plain.ensures, ← c.link.ensures, c.stay-in-21.ensures)
+returns-in-21 c = rw (c.in-21.is, ← c.read_plain.ensures, ← c.of.ensures, ← c.link.ensures, c.stay-in-21.ensures)
 
 pub returns-in_default : goal.returns-in_default
 returns-in_default c = rw (unknown-command c.args.command (omega arith) (omega arith) (omega arith) (omega arith) (omega arith) (omega arith) (omega arith) (omega arith) (omega arith), ← c.unknown.ensures, c.stay-in_default.ensures)

@@ -12,11 +12,11 @@ use Rattle.submit.proofs.add.Goals as goal
 
 pub returns-then-last-eq-LAST_OF_ALL : goal.returns-then-last-eq-LAST_OF_ALL
 unfolding added when◌then◌else◌
-returns-then-last-eq-LAST_OF_ALL c = rw (eq-eqb _ _ c.if-last-eq-LAST_OF_ALL.true, c.refuse.ensures)
+returns-then-last-eq-LAST_OF_ALL c = rw (eq-eqb _ _ c.if-last-eq-LAST_OF_ALL.true)
 
 pub returns-in_default : goal.returns-in_default
 unfolding added when◌then◌else◌
-returns-in_default c = rw (ne_eqb _ _ c.if-last-eq-LAST_OF_ALL.false, sym c.find_new.ensures.0 ∙ c.in_default.is, c.refuse-in_default.ensures)
+returns-in_default c = rw (ne_eqb _ _ c.if-last-eq-LAST_OF_ALL.false, sym c.find_new.ensures.0 ∙ c.in_default.is)
 
 pub put_new-requires : goal.put_new-requires
 put_new-requires c = let b : c.in-Some.k < 16 = subst OnePlace c.in-Some.is c.find_new.ensures.1 in omega (arith, simp length-take at (ap length (held c.octets_of.ensures)), simp length-take at (ap length (held c.octets_of-2.ensures)))

@@ -1,13 +1,16 @@
 -- `account::query::query` meets its contract. Assumes nothing.
+use Rattle.std.proofs.lemmas.Result.{err_from_is_err_and}
 use Rattle.octets.specs.Choice.{when◌then◌else◌}
 use Rattle.wire.proofs.StatusLaws.{code-not_zero}
 use Rattle.account.specs.Query.{queried}
 use Rattle.account.proofs.query.query.Goals as goal
 
-pub returns-in-Err : goal.returns-in-Err
+pub returns-in_err-q : goal.returns-in_err-q
 unfolding queried when◌then◌else◌
-returns-in-Err c = (rw (c.in-Err.ensures, code-not_zero c.in-Err.status, ← c.code.ensures), tt)
+returns-in_err-q c =
+    let p = err_from_is_err_and c.from_residual.result c.from_residual.ensures.1 in
+    rw (p.1, p.2) (rw (c.in_err-q.ensures, code-not_zero c.in_err-q.field-0.0), tt)
 
-pub returns-in-Ok : goal.returns-in-Ok
+pub returns : goal.returns
 unfolding queried when◌then◌else◌
-returns-in-Ok c = (rw (c.in-Ok.ensures.0, c.in-Ok.ensures.1) c.look_up.ensures.0, c.look_up.ensures.1)
+returns c = (rw (c.in_ok-q.ensures.0, c.in_ok-q.ensures.1) c.look_up.ensures.0, c.look_up.ensures.1)
