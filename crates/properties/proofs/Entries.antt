@@ -21,8 +21,7 @@ use Rattle.session.proofs.ReceiptLaws.{granting-entry}
 use Rattle.isolation.specs.Platform.{World, fresh, Own, put_own, put_entry, become, Step, opens, closes, on, of, Front, Ran, ask, on_session, of_account, step}
 use Rattle.isolation.specs.History.{bound_to, after}
 use Rattle.answers.specs.Answer.{Call, taking, delivering, Question, Answer}
-use Rattle.open.specs.Open.{not_bound, leg_of, bind_to}
-use Rattle.open.specs.declared.Bound.{Bound}
+use Rattle.open.specs.Open.{Bound, not_bound, leg_of, bind_to}
 use Rattle.centre.specs.Centre.{centre, on_front}
 use Rattle.wellformed.proofs.Cases.{found-cases, read-cases}
 use Rattle.properties.proofs.Named.{found-used}

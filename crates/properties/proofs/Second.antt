@@ -16,8 +16,9 @@ use Rattle.properties.specs.Property2.{Picked, Property2}
 use Rattle.properties.proofs.Back.{pick-back, SameStored, stored_back}
 use Rattle.properties.proofs.OnCases.{on-cases}
 use Rattle.properties.proofs.OfCases.{of-cases, of-refusal}
-use Rattle.properties.proofs.Unique.{one-moved, one-handed, one-taken, one-delivered, one-reported, one-gave, one-offers, one-answers, one-fronts, one-acts, one-handles, one-comes, one_placed}
+use Rattle.properties.proofs.Unique.{one-moved, one-handed, one-taken, one-delivered, one-reported, one-gave, one-asked, one-binds, one-offers, one-answers, one-fronts, one-acts, one-handles, one-comes, one_placed}
 use Rattle.session.proofs.RefusalLaws.{one-outcome}
+use Rattle.wire.proofs.StatusLaws.{one-outcome as one-status}
 
 picking : (book : List ℕ) (w : World) (a : ℕ) → (let r = step centre book w (of a pick) in (r.world ≡ w) × Picked (part_of a w.table) r.answer)
 unfolding act
@@ -50,6 +51,9 @@ property2 =
       wrote = λ n n' s s' e. (ap (λ (w : Written). w.count) e, ap (λ (w : Written). w.space) e);
       gave = one-gave;
       changed = λ n n' p p' e. (ap (λ (c : Changed). c.status) e, ap (λ (c : Changed). c.part) e);
+      refused = one-status;
+      asked = one-asked;
+      binds = one-binds;
       told = λ b b' p p' e. (ap (λ (r : Reported). r.waited) e, ap (λ (r : Reported). r.part) e);
       noted = λ n n' p p' e. (ap (λ (r : Noted). r.number) e, ap (λ (r : Noted). r.part) e);
       offers = one-offers;

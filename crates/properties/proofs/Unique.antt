@@ -14,12 +14,15 @@ use Rattle.session.specs.State.{Moved, moved_to}
 use Rattle.session.proofs.RefusalLaws.{one-number, one-outcome, number-not-0}
 use Rattle.answers.specs.Answer.{Answer}
 use Rattle.answers.specs.Answer as A
+use Rattle.wire.proofs.StatusLaws.{one-code, not-0}
+use Rattle.wire.specs.declared.status.Status.{Status}
+use Rattle.account.specs.Query.{Asked, asked}
 use Rattle.submit.specs.Submit.{Submitted, gave}
 use Rattle.submit.specs.declared.Given.{Given}
 use Rattle.isolation.specs.Platform.{Effect, Front, Ran}
 use Rattle.receipts.specs.Offer.{Offered, offers}
 use Rattle.receipts.specs.declared.offer.Offer.{Offer}
-use Rattle.open.specs.Open.{answers, fronts}
+use Rattle.open.specs.Open.{Bound, answers, binds, fronts}
 use Rattle.open.specs.declared.Fronted.{Fronted}
 use Rattle.bound.specs.Bound.{Stored, Hand, acts, handles, comes_to}
 use Rattle.bound.specs.declared.Acted.{Acted}
@@ -115,16 +118,31 @@ one-acts r r' part part' space space' e =
     acting : ℕ → ℕ → ℕ → Bool → Acted
     acting c w l en = record { consumed = c; written = w; last = l; ends = en }
 
-pub one-gave : Tells gave
-one-gave g g' part part' e =
-    let status : g.status ≡ g'.status = ap (λ (s : Submitted). s.status) e in
-    let id : g.id ≡ g'.id = ap (λ (s : Submitted). s.id) e in
-    let last : g.last ≡ g'.last = ap (λ (s : Submitted). s.last) e in
-    let same : giving g.status g.id g.last ≡ giving g'.status g'.id g'.last = rw (status, id, last) in
-    (same, ap (λ (s : Submitted). s.part) e)
-  where
-    giving : ℕ → Option ℕ → ℕ → Given
-    giving status id last = record { status = status; id = id; last = last }
+-- two numbers or none, as an option
+some-alike : {A : Type 0} (x y : A) → Some x ≡ Some y → x ≡ y
+some-alike x y e = cc
+
+pub one-gave : (last : ℕ) → Tells (gave last)
+one-gave last (Ok g) (Ok g') part part' e =
+    let id : g.id ≡ g'.id = some-alike g.id g'.id (ap (λ (s : Submitted). s.id) e) in
+    let n : g.last ≡ g'.last = ap (λ (s : Submitted). s.last) e in
+    (ap₂ {C = Result Given Status} (λ (i l : ℕ). Ok (record { id = i; last = l })) id n, ap (λ (s : Submitted). s.part) e)
+one-gave last (Ok g) (Err x) part part' e = not-0 x (ap (λ (s : Submitted). s.status) e)
+one-gave last (Err x) (Ok g) part part' e = not-0 x (sym (ap (λ (s : Submitted). s.status) e))
+one-gave last (Err x) (Err y) part part' e =
+    (ap {B = Result Given Status} (λ (q : Status). Err q) (one-code x y (ap (λ (s : Submitted). s.status) e)), ap (λ (s : Submitted). s.part) e)
+
+pub one-asked : (o o' : Result ℕ Status) → asked o ≡ asked o' → o ≡ o'
+one-asked (Ok k) (Ok k') e = ap {B = Result ℕ Status} (λ (n : ℕ). Ok n) (some-alike k k' (ap (λ (a : Asked). a.place) e))
+one-asked (Ok k) (Err x) e = not-0 x (ap (λ (a : Asked). a.status) e)
+one-asked (Err x) (Ok k) e = not-0 x (sym (ap (λ (a : Asked). a.status) e))
+one-asked (Err x) (Err y) e = ap {B = Result ℕ Status} (λ (q : Status). Err q) (one-code x y (ap (λ (a : Asked). a.status) e))
+
+pub one-binds : (o o' : Result Entry Status) → binds o ≡ binds o' → o ≡ o'
+one-binds (Ok k) (Ok k') e = ap {B = Result Entry Status} (λ (n : Entry). Ok n) (ap (λ (b : Bound). b.entry) e)
+one-binds (Ok k) (Err x) e = not-0 x (ap (λ (b : Bound). b.status) e)
+one-binds (Err x) (Ok k) e = not-0 x (sym (ap (λ (b : Bound). b.status) e))
+one-binds (Err x) (Err y) e = ap {B = Result Entry Status} (λ (q : Status). Err q) (one-code x y (ap (λ (b : Bound). b.status) e))
 
 pub one_placed : (part : List ℕ) (r r' : Result ℕ Refusal) → placed r part ≡ placed r' part → r ≡ r'
 one_placed part (Ok k) (Ok j) e = cc

@@ -3,7 +3,7 @@
 -- receipt and an outcome say `takes .. ≡ step ..`, `delivers .. ≡ step ..` and `reports .. ≡ step ..`; a pick gives number, place and record of its
 -- step's answer; opening and closing say what is `step` by the lines here. Here is also that a pick changes nothing and a receipt no stored message,
 -- and that such contracts allow one result only, so that the definition alone decides; of a contract that names its result, `r ≡ ..`, that goes
--- without saying, and of a returned part it is `one-part` of crate octets.
+-- without saying, of a returned part it is `one-part` of crate octets, and of a body that is read `one-reads` of crate requests.
 use Rattle.std.specs.Prelude.{ℕ, ◌<◌, ◌≡◌, List, replicate, Option, Result}
 use Rattle.records.specs.Layout.{places}
 use Rattle.store.specs.Places.{record_at}
@@ -16,8 +16,12 @@ use Rattle.centre.specs.Centre.{step, world, moves, takes, delivers, reports}
 use Rattle.answers.specs.Reply.{wrote}
 use Rattle.submit.specs.Submit.{gave}
 use Rattle.account.specs.Cancel.{changed}
+use Rattle.account.specs.Query.{asked}
+use Rattle.wire.specs.Status.{outcome_status}
+use Rattle.wire.specs.declared.status.Status.{Status}
+use Rattle.session.specs.declared.Entry.{Entry}
 use Rattle.account.specs.Outcome.{told}
-use Rattle.open.specs.Open.{answers, fronts}
+use Rattle.open.specs.Open.{answers, binds, fronts}
 use Rattle.receipts.specs.Offer.{offers}
 use Rattle.receipts.specs.Settle.{settling}
 use Rattle.bound.specs.Bound.{acts, handles, comes_to}
@@ -64,8 +68,11 @@ pub record Property2 : Type 0 where
   pub numbered : (o o' : Result Unit Refusal) → outcome_number o ≡ outcome_number o' → o ≡ o'
   -- and inside: replies, submissions, other changes of an account, outcomes, receipts written and settled, octets on an open and on a bound session
   pub wrote : Tells wrote
-  pub gave : Tells gave
+  pub gave : (last : ℕ) → Tells (gave last)
   pub changed : Tells changed
+  pub refused : (o o' : Result Unit Status) → outcome_status o ≡ outcome_status o' → o ≡ o'
+  pub asked : (o o' : Result ℕ Status) → asked o ≡ asked o' → o ≡ o'
+  pub binds : (o o' : Result Entry Status) → binds o ≡ binds o' → o ≡ o'
   pub told : Tells told
   pub noted : Tells noting
   pub offers : (receipt : Option Receipt) → Tells (offers receipt)
