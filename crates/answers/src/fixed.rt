@@ -19,12 +19,7 @@ pub fn no_submission(space: &mut [u8], sequence: u32) -> usize
     requires { space_needed ≤ length space.old }
     ensures { wrote result space.new ≡ over (reply 0x80000004 invalid_bind_status sequence (submit_body None)) space.old }
 {
-    reply::submit(
-        space,
-        status::INVALID_BIND_STATUS,
-        sequence,
-        None,
-    )
+    reply::submit(space, status::INVALID_BIND_STATUS, sequence, None)
 }
 
 // A query that is refused.

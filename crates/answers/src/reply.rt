@@ -3,7 +3,6 @@ ghost use Rattle.std.specs.Prelude.{◌≡◌, ◌+◌, ◌≤◌, length};
 ghost use Rattle.octets.specs.Stretch.{patch};
 ghost use Rattle.answers.specs.Reply.{header, reply, submit_response, query_response, space_needed, no_body, bind_body, id_text, submit_body, query_body, wrote, over};
 
-
 // The longest reply: a query's, 16 + 9 + 17 + 2.
 pub const SPACE_NEEDED: usize = 44;
 

@@ -80,8 +80,7 @@ one-took (Err x) (Err y) s s' e =
 
 pub one-taken : TellsOfThree takes
 one-taken h h' t t' space space' e =
-    let o = one-took h.outcome h'.outcome space space' (ap answer_of e) in
-    (
+    let o = one-took h.outcome h'.outcome space space' (ap answer_of e) in (
       ap₂ {C = Handed Taken} (λ (r : Result Taken Refusal) (st : State). record { outcome = r; state = st }) o.0 (ap (λ (q : Ran Answer). q.world.state) e),
       ap (λ (q : Ran Answer). q.world.table) e,
       o.1,
@@ -165,8 +164,7 @@ one-receipt (Err x) (Err y) s s' e =
 
 pub one-delivered : TellsOfThree delivers
 one-delivered h h' t t' space space' e =
-    let o = one-receipt h.outcome h'.outcome space space' (ap answer_of e) in
-    (
+    let o = one-receipt h.outcome h'.outcome space space' (ap answer_of e) in (
       ap₂ {C = Handed ℕ} (λ (r : Result ℕ Refusal) (st : State). record { outcome = r; state = st }) o.0 (ap (λ (q : Ran Answer). q.world.state) e),
       ap (λ (q : Ran Answer). q.world.table) e,
       o.1,

@@ -93,7 +93,8 @@ pub fn turn(book: &[u8], table: &mut [u8], state: State, asked: &[u8], text: &mu
     match record::order_of(asked) {
         Some(Order::Open) => {
             let opened = state.open(usize::from(asked[1]));
-            told(refusal::number_of(opened.outcome), 0, b"", opened.state, text)
+            let number = refusal::number_of(opened.outcome);
+            told(number, 0, b"", opened.state, text)
         }
         Some(Order::Octets) => {
             let end = 20 + record::length_of(asked);
@@ -109,7 +110,8 @@ pub fn turn(book: &[u8], table: &mut [u8], state: State, asked: &[u8], text: &mu
         }
         Some(Order::Close) => {
             let closed = state.close(usize::from(asked[1]));
-            told(refusal::number_of(closed.outcome), 0, b"", closed.state, text)
+            let number = refusal::number_of(closed.outcome);
+            told(number, 0, b"", closed.state, text)
         }
         Some(Order::Outcome) => outcome(book, table, state, asked, text),
         None => stop(state, text),

@@ -6,7 +6,7 @@ use Rattle.wire.specs.Status.{outcome_status}
 use Rattle.wire.specs.declared.status.Status.{Status}
 use Rattle.session.specs.declared.Entry.{Entry}
 use Rattle.session.specs.declared.Entry.TheVariants.{Open}
-use Rattle.open.specs.Open.{Bound, binds, open_bind}
+use Rattle.open.specs.Open.{binds, open_bind}
 use Rattle.open.proofs.open_bind.Goals as goal
 
 -- a bind's status and entry, as the two are told

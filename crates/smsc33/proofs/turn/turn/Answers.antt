@@ -7,7 +7,7 @@ use Rattle.smsc33.proofs.turn.turn.Goals as goal
 pub returns-in-Some-Open : goal.returns-in-Some-Open
 unfolding turn_of step
 returns-in-Some-Open c =
-    let s = rw c.number_of.ensures at c.told.ensures.0 c.args.table.now in
+    let s = rw c.number_of-number.ensures at c.told.ensures.0 c.args.table.now in
     (rw (← c.order_of.ensures.0, c.in-Some-Open.is, c.in-Some-Open.field-0-is, ← c.from.ensures, ← c.open-opened.ensures) s, c.told.ensures.1)
 
 pub returns-in-Some-Octets : goal.returns-in-Some-Octets
@@ -19,7 +19,7 @@ returns-in-Some-Octets c =
 pub returns-in-Some-Close : goal.returns-in-Some-Close
 unfolding turn_of step
 returns-in-Some-Close c =
-    let s = rw c.number_of-in-Some-Close.ensures at c.told-in-Some-Close.ensures.0 c.args.table.now in
+    let s = rw c.number_of-number-in-Some-Close.ensures at c.told-in-Some-Close.ensures.0 c.args.table.now in
     (rw (← c.order_of.ensures.0, c.in-Some-Close.is, c.in-Some-Close.field-0-is, ← c.from-in-Some-Close.ensures, ← c.close-closed.ensures) s, c.told-in-Some-Close.ensures.1)
 
 pub returns-in-Some-Outcome : goal.returns-in-Some-Outcome
