@@ -94,7 +94,8 @@ impl Declared {
         let mut lines = source.lines().skip(self.lines.start).take(self.lines.len());
         lines.any(|line| {
             let text = line.trim_start();
-            let is_contract = text.starts_with("requires ") || text.starts_with("ensures ");
+            let is_contract =
+                ["requires ", "ensures ", "ghost "].iter().any(|word| text.starts_with(word));
             // What stands before the brace is the clause's own name.
             let clause = text.split_once('{').map_or("", |(_, clause)| clause);
             is_contract && uses(clause, definition)
@@ -102,29 +103,70 @@ impl Declared {
     }
 }
 
-/// The functions of a source file.
+/// The functions of a source file. What an `impl` of a trait says in ghost members is the
+/// contract of its function, which every caller may call.
 pub fn declared(file: &str, source: &str) -> Vec<Declared> {
     let lines: Vec<&str> = source.lines().collect();
     let modules = modules_of(file);
-    let mut methods_of = None;
+    let mut implementing = None;
     let mut found = Vec::new();
     for (first, line) in lines.iter().enumerate() {
-        if let Some(rest) = line.strip_prefix("impl ") {
-            methods_of = Some(leading_name(rest).to_string());
+        if let Some(head) = implementation(line) {
+            implementing = Some((first, head));
         } else if *line == "}" {
-            methods_of = None;
+            implementing = None;
         } else if let Some(name) = declared_function(line) {
             let mut path = modules.clone();
-            path.extend(methods_of.clone());
+            path.extend(implementing.as_ref().map(|(_, head)| head.name.clone()));
             path.push(name.to_string());
+            let of_trait = implementing.as_ref().filter(|(_, head)| head.is_of_trait);
             found.push(Declared {
                 function: Function(path),
-                is_public: line.trim_start().starts_with("pub "),
-                lines: first..end_of_function(&lines, first),
+                is_public: of_trait.is_some() || line.trim_start().starts_with("pub "),
+                lines: of_trait.map_or(first, |(start, _)| *start)..end_of_function(&lines, first),
             });
         }
     }
     found
+}
+
+/// What an `impl` is of, as the prover names it.
+struct Implementation {
+    name: String,
+    is_of_trait: bool,
+}
+
+fn implementation(line: &str) -> Option<Implementation> {
+    let rest = line.strip_prefix("impl")?;
+    let rest = match rest.strip_prefix('<') {
+        Some(generics) => generics.split_once('>')?.1,
+        None => rest,
+    };
+    let head = rest.strip_prefix(' ')?.trim_end_matches('{').trim();
+    Some(match head.split_once(" for ") {
+        Some((of, kind)) => Implementation {
+            name: camel(kind) + &camel(of),
+            is_of_trait: true,
+        },
+        None => Implementation {
+            name: leading_name(head).to_string(),
+            is_of_trait: false,
+        },
+    })
+}
+
+/// A type's names, one behind the other, each with a capital: `From<Handed<()>>` is
+/// `FromHandedUnit`.
+fn camel(kind: &str) -> String {
+    let kind = kind.replace("()", "unit");
+    let names = kind.split(|letter| !is_of_name(letter));
+    names
+        .filter_map(|name| {
+            let mut letters = name.chars();
+            let first = letters.next()?.to_ascii_uppercase();
+            Some(format!("{first}{}", letters.as_str()))
+        })
+        .collect()
 }
 
 /// The functions that the change of a text touches; a change of none is an error, since

@@ -14,7 +14,7 @@ use Rattle.session.specs.State.{Moved, moved_to}
 use Rattle.session.proofs.RefusalLaws.{one-number, one-outcome, number-not-0}
 use Rattle.answers.specs.Answer.{Answer}
 use Rattle.answers.specs.Answer as A
-use Rattle.wire.proofs.StatusLaws.{one-code, not-0}
+use Rattle.wire.proofs.StatusLaws.{code-one, not-0}
 use Rattle.wire.specs.declared.status.Status.{Status}
 use Rattle.account.specs.Query.{Asked, asked}
 use Rattle.submit.specs.Submit.{Submitted, gave}
@@ -129,19 +129,19 @@ one-gave last (Ok g) (Ok g') part part' e =
 one-gave last (Ok g) (Err x) part part' e = not-0 x (ap (λ (s : Submitted). s.status) e)
 one-gave last (Err x) (Ok g) part part' e = not-0 x (sym (ap (λ (s : Submitted). s.status) e))
 one-gave last (Err x) (Err y) part part' e =
-    (ap {B = Result Given Status} (λ (q : Status). Err q) (one-code x y (ap (λ (s : Submitted). s.status) e)), ap (λ (s : Submitted). s.part) e)
+    (ap {B = Result Given Status} (λ (q : Status). Err q) (code-one x y (ap (λ (s : Submitted). s.status) e)), ap (λ (s : Submitted). s.part) e)
 
 pub one-asked : (o o' : Result ℕ Status) → asked o ≡ asked o' → o ≡ o'
 one-asked (Ok k) (Ok k') e = ap {B = Result ℕ Status} (λ (n : ℕ). Ok n) (some-alike k k' (ap (λ (a : Asked). a.place) e))
 one-asked (Ok k) (Err x) e = not-0 x (ap (λ (a : Asked). a.status) e)
 one-asked (Err x) (Ok k) e = not-0 x (sym (ap (λ (a : Asked). a.status) e))
-one-asked (Err x) (Err y) e = ap {B = Result ℕ Status} (λ (q : Status). Err q) (one-code x y (ap (λ (a : Asked). a.status) e))
+one-asked (Err x) (Err y) e = ap {B = Result ℕ Status} (λ (q : Status). Err q) (code-one x y (ap (λ (a : Asked). a.status) e))
 
 pub one-binds : (o o' : Result Entry Status) → binds o ≡ binds o' → o ≡ o'
 one-binds (Ok k) (Ok k') e = ap {B = Result Entry Status} (λ (n : Entry). Ok n) (ap (λ (b : Bound). b.entry) e)
 one-binds (Ok k) (Err x) e = not-0 x (ap (λ (b : Bound). b.status) e)
 one-binds (Err x) (Ok k) e = not-0 x (sym (ap (λ (b : Bound). b.status) e))
-one-binds (Err x) (Err y) e = ap {B = Result Entry Status} (λ (q : Status). Err q) (one-code x y (ap (λ (b : Bound). b.status) e))
+one-binds (Err x) (Err y) e = ap {B = Result Entry Status} (λ (q : Status). Err q) (code-one x y (ap (λ (b : Bound). b.status) e))
 
 pub one_placed : (part : List ℕ) (r r' : Result ℕ Refusal) → placed r part ≡ placed r' part → r ≡ r'
 one_placed part (Ok k) (Ok j) e = cc

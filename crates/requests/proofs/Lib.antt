@@ -1,1 +1,1 @@
-pub mod ReadingLaws
+pub mod OneReading

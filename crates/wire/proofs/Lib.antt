@@ -1,3 +1,4 @@
 pub mod StatusLaws
 pub mod FieldLaws
 pub mod CommandLaws
+pub mod OneAnswer

@@ -1,11 +1,10 @@
 -- Of the numbers of statuses. Assumes nothing.
 use mathlib.Core.Path.{◌≡◌, refl, sym, ap, ◌∙◌}
 use mathlib.Core.Bool.{true, false}
-use mathlib.Core.List.{List, [], ◌∷◌}
 use Prim.Native.Nat.{ℕ}
-use lib.ListN.{get_or}
 use lib.Dec.{eqb}
 use Rattle.std.proofs.Common.{rules}
+use Rattle.octets.specs.Choice.{when◌then◌else◌}
 use Rattle.std.specs.Prelude.{Result, Ok, Err, is_ok}
 use Rattle.wire.specs.Status.{code, outcome_status}
 use Rattle.wire.specs.declared.status.Status.{Status}
@@ -15,49 +14,45 @@ use Rattle.wire.specs.declared.status.Status.TheVariants.{InvalidMessageLength, 
 pub code-not_zero : (e : Status) → eqb (code e) 0 ≡ false
 code-not_zero e = search rules
 
--- and what is not refused has
-pub ok-is-0 : {A : Type 0} (r : Result A Status) → is_ok r ≡ eqb (outcome_status r) 0
-ok-is-0 (Ok x) = refl
-ok-is-0 (Err e) = sym (code-not_zero e)
+-- ---- two statuses don't have one number
 
--- ---- a status is told by its number, and what a request comes to by its status where it has no value
+abbrev named : ℕ → Status
+named n =
+    when eqb n 1 then InvalidMessageLength
+    else when eqb n 2 then InvalidCommandLength
+    else when eqb n 3 then InvalidCommandId
+    else when eqb n 4 then InvalidBindStatus
+    else when eqb n 5 then AlreadyBound
+    else when eqb n 6 then InvalidPriority
+    else when eqb n 7 then InvalidRegistered
+    else when eqb n 8 then SystemError
+    else when eqb n 9 then InvalidParameter
+    else when eqb n 10 then InvalidSource
+    else when eqb n 11 then InvalidDestination
+    else when eqb n 12 then InvalidMessageId
+    else when eqb n 13 then InvalidPassword
+    else when eqb n 17 then CannotCancel
+    else when eqb n 19 then CannotReplace
+    else QueueFull
 
--- the numbers that no refusal has stand for the first
-abbrev statuses : List Status
-statuses =
-    InvalidMessageLength ∷ InvalidMessageLength ∷ InvalidCommandLength ∷ InvalidCommandId ∷ InvalidBindStatus ∷ AlreadyBound ∷ InvalidPriority ∷ InvalidRegistered
-    ∷ SystemError ∷ InvalidParameter ∷ InvalidSource ∷ InvalidDestination ∷ InvalidMessageId ∷ InvalidPassword ∷ InvalidMessageLength ∷ InvalidMessageLength
-    ∷ InvalidMessageLength ∷ CannotCancel ∷ InvalidMessageLength ∷ CannotReplace ∷ QueueFull ∷ []
+named-code : (e : Status) → named (code e) ≡ e
+unfolding when◌then◌else◌
+named-code e = search rules
 
-abbrev status_of : ℕ → Status
-status_of n = get_or statuses n InvalidMessageLength
+pub code-one : (d e : Status) → code d ≡ code e → d ≡ e
+code-one d e h = sym (named-code d) ∙ ap named h ∙ named-code e
 
-told : (e : Status) → status_of (code e) ≡ e
-told InvalidMessageLength = refl
-told InvalidCommandLength = refl
-told InvalidCommandId = refl
-told InvalidBindStatus = refl
-told AlreadyBound = refl
-told InvalidPriority = refl
-told InvalidRegistered = refl
-told SystemError = refl
-told InvalidParameter = refl
-told InvalidSource = refl
-told InvalidDestination = refl
-told InvalidMessageId = refl
-told InvalidPassword = refl
-told CannotCancel = refl
-told CannotReplace = refl
-told QueueFull = refl
-
-pub one-code : (e e' : Status) → code e ≡ code e' → e ≡ e'
-one-code e e' h = sym (told e) ∙ (ap status_of h ∙ told e')
+-- ---- what a request comes to is told by its status where it has no value
 
 pub not-0 : {B : Type 0} (e : Status) → 0 ≡ code e → B
 not-0 e h = let z : true ≡ false = ap (λ (n : ℕ). eqb n 0) h ∙ code-not_zero e in cc
+
+pub ok-is-0 : {A : Type 0} (r : Result A Status) → is_ok r ≡ eqb (outcome_status r) 0
+ok-is-0 (Ok x) = refl
+ok-is-0 (Err e) = sym (code-not_zero e)
 
 pub one-outcome : (o o' : Result Unit Status) → outcome_status o ≡ outcome_status o' → o ≡ o'
 one-outcome (Ok x) (Ok y) h = refl
 one-outcome (Ok x) (Err e) h = not-0 e h
 one-outcome (Err e) (Ok x) h = not-0 e (sym h)
-one-outcome (Err e) (Err e') h = ap (λ (q : Status). Err q) (one-code e e' h)
+one-outcome (Err e) (Err e') h = ap (λ (q : Status). Err q) (code-one e e' h)
