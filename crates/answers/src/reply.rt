@@ -12,6 +12,7 @@ pub const SUBMIT_RESPONSE: u32 = 0x8000_0004;
 
 pub const QUERY_RESPONSE: u32 = 0x8000_0003;
 
+// A status is an octet here, as in every reply: the clauses hold for each of the 256, and an enum would ask more.
 pub fn put_header(space: &mut [u8], size: u32, id: u32, status: u8, sequence: u32)
     requires { 16 ≤ length space.old }
     ensures { space.new ≡ patch space.old 0 (header size id status sequence) }

@@ -180,7 +180,7 @@ fn already_bound(space: &mut [u8], id: u32, sequence: u32) -> usize
     reply::bind(space, id, status::ALREADY_BOUND, sequence)
 }
 
-// One whole PDU.
+// One whole PDU. The command id is matched over its numbers: document 01 names this form.
 fn command(
     transmitter: bool,
     book: &[u8],

@@ -136,7 +136,7 @@ pub fn start_of(account: usize, place: usize) -> usize
     layout::PART_SIZE * account + layout::RECORD_SIZE * place
 }
 
-// Whether there is a message to send: 3, 7, 9, 11, or 0.
+// Whether there is a message to send: 3, 7, 9, 11, or 0. The number itself is what this call is for (document 01), so it is no `Result`.
 pub fn pick_number(book: &[u8], table: &[u8], state: State, account: usize) -> u8
     ensures { result ≡ number_of (step book.now (world state table.now) (Step.of account Question.pick)).answer }
 {

@@ -3,6 +3,7 @@ ghost use Rattle.std.specs.Prelude.{◌≡◌, ◌≤◌, length, not, position}
 ghost use Rattle.octets.specs.Stretch.{every};
 ghost use Rattle.forms.specs.Class.{decimal, in_class, lead};
 
+// Kinds that the definitions name (`in_class`), and no tests to be handed in.
 #[derive(Clone, Copy)]
 pub enum Class {
     NotNul,

@@ -10,6 +10,7 @@ use crate::class::Class;
 // The longest short message.
 pub const LONGEST_TEXT: u8 = 140;
 
+// Kinds that the definitions name (`formed`), and no steps to be handed in.
 #[derive(Clone, Copy)]
 pub enum Form {
     Ascii,

@@ -36,7 +36,7 @@ fn is_time(t: &[u8]) -> bool
         & ((sign == b'+') | (sign == b'-'))
 }
 
-// A time that a request or a call gives. Its rule and the one below have two names, since a request of document 01 may change one alone.
+// A time that a request or a call gives. Its rule and the one below have two names, since request 02.5 changes the first alone.
 pub fn is_sent_time(t: &[u8]) -> bool
     ensures { result ≡ sent_time t.now }
 {

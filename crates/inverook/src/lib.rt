@@ -1,4 +1,5 @@
-// The centre for C: include/inverook.h tells a caller what each function is given and gives. A slice is passed as pointer and length.
+// The centre for C: include/inverook.h tells a caller what each function is given and gives. A slice is passed as pointer and length,
+// and an answer is numbers, so that each call is a function of its own and a refusal no `Result`.
 #![tactic(auto)]
 
 mod flat;

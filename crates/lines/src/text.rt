@@ -89,7 +89,7 @@ impl Line {
     }
 }
 
-// Answer, consumed count and reply, and the line's end. It writes into a text that it is lent, since its clause says what that text holds then.
+// Answer, consumed count and reply, and the line's end. It writes into a text that it is lent, since its clause says what that text holds then; the answer is any octet, as the clause is.
 pub fn put_line(text: &mut [u8], number: u8, consumed: usize, reply: &[u8]) -> usize
     requires { (length reply.now ≤ space_needed) × (length text.old ≡ line_room) }
     ensures { (text.new ≡ patch text.old 0 (line number consumed reply.now)) × (result ≡ length (line number consumed reply.now)) × (result ≤ line_room) }

@@ -21,7 +21,7 @@ pub fn put_number(target: &mut [u8], at: usize, n: u32)
     stretch::put(target, at, &n.to_be_bytes());
 }
 
-// The upper-case hex digit of a number below 16.
+// The upper-case hex digit of a number below 16: `char::from_digit` gives the lower-case one.
 pub fn hex_digit(d: u32) -> u8
     requires { d < 16 }
     ensures { result ≡ hex_digit d }
@@ -33,7 +33,7 @@ pub fn hex_digit(d: u32) -> u8
     }
 }
 
-// Writes n as eight upper-case hex digits from `at` on.
+// Writes n as eight upper-case hex digits from `at` on: into a lent slice and no text, which `write!` would need.
 pub fn put_hex(target: &mut [u8], at: usize, n: u32)
     requires { at + 8 ≤ length target.old }
     ensures { target.new ≡ patch target.old at (hex8 n) }

@@ -24,7 +24,7 @@ pub fn is_same(a: &[u8], b: &[u8]) -> bool
     a == b
 }
 
-// Whether every octet is zero. No early exit: the loop then runs many octets at a time.
+// Whether every octet is zero. No early exit: the loop then runs many octets at a time. A `for`, since the proof of a `fold` stayed open.
 pub fn all_zero(s: &[u8]) -> bool
     ensures { result ≡ zeros s.now }
 {

@@ -87,6 +87,7 @@ fn stay(consumed: usize, written: usize) -> Fronted
     }
 }
 
+// The command id is matched over its numbers: document 01 names this form.
 fn open_command(
     book: &[u8],
     consumed: usize,

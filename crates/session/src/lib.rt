@@ -92,7 +92,7 @@ pub fn receipt_for(account: usize, x: Session) -> Option<Receipt>
 }
 
 impl State {
-    // All sessions closed, all last ids 0.
+    // All sessions closed, all last ids 0. No `Default` beside it: fresh is the outline's word, and two names for one state are no plainer.
     pub fn fresh() -> State
         ensures { result ≡ fresh }
     {
