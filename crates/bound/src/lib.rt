@@ -20,7 +20,7 @@ use session::refusal::Refusal;
 use wire::frame::Frame;
 use wire::{frame, status};
 
-// What an account's turn comes to; its part stands where it was lent.
+// What an account's turn comes to; its part stands where it was lent. That the session ends is a fact beside the counts, as in the definition.
 #[derive(Clone, Copy)]
 pub struct Acted {
     pub consumed: usize,

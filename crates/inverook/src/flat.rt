@@ -66,7 +66,7 @@ impl From<InverookState> for State {
     }
 }
 
-// Its kind and its account are numbers of C, each half of an entry, so they are no `From` either.
+// An entry's kind and its account are numbers of C, each half of the entry, so they are no `From` either.
 fn kind_of(entry: Entry) -> u8
     ensures { result ≡ entry_kind entry }
 {

@@ -30,6 +30,7 @@ pub fn order_of(asked: &[u8]) -> Option<Order>
         return None;
     }
     let length = length_of(asked);
+    // The kinds are the input's own octets.
     match asked[0] {
         0 => Some(Order::Open),
         1 if length <= PAYLOAD_SIZE => Some(Order::Octets),

@@ -3,7 +3,8 @@
 -- receipt and an outcome say `takes .. ≡ step ..`, `delivers .. ≡ step ..` and `reports .. ≡ step ..`; a pick gives number, place and record of its
 -- step's answer; opening and closing say what is `step` by the lines here. Here is also that a pick changes nothing and a receipt no stored message,
 -- and that such contracts allow one result only, so that the definition alone decides; of a contract that names its result, `r ≡ ..`, that goes
--- without saying, of a returned part it is `one-part` of crate octets, and of a body that is read `one-reading` of crate requests.
+-- without saying, of a returned part it is `one-part` of crate octets, of a field that is read
+-- `one-field`, `one-fault` and `one-end` of crate wire, and of a body `one-reading` of crate requests.
 use Rattle.std.specs.Prelude.{ℕ, ◌<◌, ◌≡◌, List, replicate, Option, Result}
 use Rattle.records.specs.Layout.{places}
 use Rattle.store.specs.Places.{record_at}

@@ -6,6 +6,7 @@ pub const SHORTEST_PDU: u32 = 16;
 
 pub const LONGEST_PDU: u32 = 512;
 
+// Three kinds, as its definition has them: to wait, to end the session, to go on.
 #[derive(Clone, Copy)]
 pub enum Frame {
     // more octets are needed

@@ -51,21 +51,3 @@ pub const INVALID_COMMAND_ID: u8 = Status::InvalidCommandId as u8;
 pub const INVALID_BIND_STATUS: u8 = Status::InvalidBindStatus as u8;
 
 pub const ALREADY_BOUND: u8 = Status::AlreadyBound as u8;
-
-pub const SYSTEM_ERROR: u8 = Status::SystemError as u8;
-
-pub const INVALID_PARAMETER: u8 = Status::InvalidParameter as u8;
-
-pub const INVALID_SOURCE: u8 = Status::InvalidSource as u8;
-
-pub const INVALID_DESTINATION: u8 = Status::InvalidDestination as u8;
-
-pub const INVALID_MESSAGE_ID: u8 = Status::InvalidMessageId as u8;
-
-pub const INVALID_PASSWORD: u8 = Status::InvalidPassword as u8;
-
-pub const CANNOT_CANCEL: u8 = Status::CannotCancel as u8;
-
-pub const CANNOT_REPLACE: u8 = Status::CannotReplace as u8;
-
-pub const QUEUE_FULL: u8 = Status::QueueFull as u8;
