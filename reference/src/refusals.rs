@@ -94,8 +94,9 @@ impl Declared {
         let mut lines = source.lines().skip(self.lines.start).take(self.lines.len());
         lines.any(|line| {
             let text = line.trim_start();
-            let is_contract =
-                ["requires ", "ensures ", "ghost "].iter().any(|word| text.starts_with(word));
+            let is_contract = ["requires ", "ensures ", "ghost "]
+                .iter()
+                .any(|word| text.starts_with(word));
             // What stands before the brace is the clause's own name.
             let clause = text.split_once('{').map_or("", |(_, clause)| clause);
             is_contract && uses(clause, definition)
@@ -729,6 +730,20 @@ pub record Good (r : List ℕ) : Type 0 where
         assert!(names("src/a.rt", "does not bound").is_err());
         assert!(names("src/a.rt", "u32").unwrap_err().contains("5 times"));
         assert!(names("src/a.rt", "u64").unwrap_err().contains("0 times"));
+    }
+
+    #[test]
+    fn an_impl_is_named_as_the_prover_names_it() {
+        let name = |line| implementation(line).map(|head| (head.name, head.is_of_trait));
+        let named = |name: &str, is_of_trait| Some((name.to_string(), is_of_trait));
+        assert_eq!(name("impl Place {"), named("Place", false));
+        assert_eq!(name("impl<'a> Fields<'a> {"), named("Fields", false));
+        assert_eq!(name("impl<T> Handed<T> {"), named("Handed", false));
+        let moved = "impl From<Handed<()>> for InverookMoved {";
+        assert_eq!(name(moved), named("InverookMovedFromHandedUnit", true));
+        let octet = "impl From<Refusal> for u8 {";
+        assert_eq!(name(octet), named("U8FromRefusal", true));
+        assert_eq!(name("fn implement() {"), None);
     }
 
     #[test]
