@@ -5,9 +5,10 @@ use mathlib.Core.List.{List, [], ◌∷◌, ◌++◌, append_assoc, append-nil}
 use Prim.Native.Nat.{ℕ, zero, suc, ◌+◌, ◌-◌, ◌≤◌, ◌<◌}
 use native.Mathlib.Omega.{arith}
 use native.Mathlib.Nat.{add-sub_cancel_left, zero-add, suc-add}
+use native.Mathlib.Numerals.{add-one}
 use lib.ListN.{length, take, drop, get_or, set, replicate, length-append, length-replicate, replicate-append-replicate}
 use Rattle.std.proofs.lemmas.List.{drop-replicate}
-use lib.Seq.{drop-drop, drop-length}
+use lib.Seq.{take-length, paste, paste-zero, paste-suc, drop-drop, drop-length}
 use Rattle.octets.specs.Stretch.{patch, part, padded}
 
 pub patch-length : (xs : List ℕ) (at : ℕ) (ys : List ℕ) → length (patch xs at ys) ≡ length xs
@@ -176,3 +177,18 @@ pub part-back : (xs : List ℕ) (at n : ℕ) (ys : List ℕ) → length ys ≡ n
 part-back xs at n ys e h =
     let h' : at + length ys ≤ length xs = omega arith in
     rw (add-sub_cancel_left at n, drop-drop n at xs, ← e, patch-is xs at ys h', append_assoc (take at xs) ys (drop (at + length ys) xs))
+
+-- ---- what a copying loop has done after i turns
+
+pub put-none : (target : List ℕ) (at : ℕ) (source : List ℕ) → target ≡ paste target at source 0
+put-none target at source = paste-zero target at source
+
+pub put-more : (target : List ℕ) (at : ℕ) (source : List ℕ) (i : ℕ) → at + length source ≤ length target → i < length source
+    → set (paste target at source i) (at + i) (get_or source i 0) ≡ paste target at source (i + 1)
+put-more target at source i h k = rw (add-one i) (paste-suc target at source i 0 (omega arith) k)
+
+pub put_all : (target : List ℕ) (at : ℕ) (source : List ℕ) (i : ℕ) → at + length source ≤ length target → i ≤ length source → length source ≤ i
+    → paste target at source i ≡ patch target at source
+put_all target at source i p h k =
+    let e : i ≡ length source = omega arith in
+    rw (e, take-length source, patch-is target at source p)

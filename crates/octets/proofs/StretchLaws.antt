@@ -7,7 +7,7 @@ use native.Mathlib.Omega.{arith}
 use native.Mathlib.Nat.{add-sub_cancel_left, zero-add, suc-add, sub-zero, zero-sub, suc-sub-suc}
 use native.Mathlib.Numerals.{add-one}
 use lib.ListN.{length, take, drop, get_or, set, replicate, length-take, length-drop, drop_of_length-le}
-use lib.Seq.{drop-cons, take-nil, take-take, drop-drop}
+use lib.Seq.{drop-cons, take-nil, take-take, drop-drop, drop-length}
 use lib.Dec.{eqb}
 use lib.Pointwise.{pointwise, bytes_decides}
 use Rattle.std.proofs.lemmas.List.{take_rest}
@@ -128,6 +128,18 @@ same-equal a b h = (bytes_decides a b).0 (sym (same-pointwise a b) ∙ h)
 pub same_refl : (a : List ℕ) → same a a ≡ true
 same_refl a = same-pointwise a a ∙ (bytes_decides a a).1 refl
 
+-- one turn of a loop that compares octet by octet, and its end
+pub same_turn : (so : Bool) (a b : List ℕ) (i : ℕ) → i < length a → i < length b
+    → (so && same (drop i a) (drop i b)) ≡ ((so && eqb (get_or a i 0) (get_or b i 0)) && same (drop (i + 1) a) (drop (i + 1) b))
+unfolding same
+same_turn so a b i h k =
+    rw (drop-cons a i 0 h, drop-cons b i 0 k, add-one i)
+    (sym (and_assoc so (eqb (get_or a i 0) (get_or b i 0)) (same (drop (suc i) a) (drop (suc i) b))))
+
+pub same_end : (so : Bool) (a b : List ℕ) (i : ℕ) → length a ≤ i → length b ≤ i → (so && same (drop i a) (drop i b)) ≡ so
+unfolding same
+same_end so a b i h k = rw (drop_of_length-le a {i = i} h, drop_of_length-le b {i = i} k) (and-true so)
+
 pub same-lengths : (a b : List ℕ) → (length a ≡ length b → ⊥) → same a b ≡ false
 same-lengths a b ne = same-pointwise a b ∙ unequal eqb a b ne
 
@@ -180,6 +192,10 @@ part_cut at n xs = rw (add-sub_cancel_left at n)
 -- a part `&s[at..]` as the borrow checker has it
 pub drop-cut : (at : ℕ) (xs : List ℕ) → take (length xs - at) (drop at xs) ≡ drop at xs
 drop-cut at xs = take_rest xs at
+
+-- the empty part at the end, as the borrow checker has it
+pub drop_past : (at : ℕ) (xs : List ℕ) → length xs ≤ at → take (length xs - length xs) (drop (length xs) xs) ≡ drop at xs
+drop_past at xs h = rw (drop-length xs, drop_of_length-le xs {i = at} h) (take-nil (length xs - length xs))
 
 pub part_length : (at n : ℕ) (xs : List ℕ) → at + n ≤ length xs → length (part at n xs) ≡ n
 part_length at n xs h = simp (length-take, length-drop) (omega arith)
