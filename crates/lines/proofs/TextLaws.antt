@@ -1,19 +1,35 @@
 -- Laws of the line's text: a text at the front of another, how wide a decimal is, and hex octet by octet. Assumes nothing.
-use mathlib.Core.Path.{◌≡◌, refl, ap}
+use mathlib.Core.Path.{◌≡◌, refl, ap, ◌∙◌}
 use mathlib.Core.List.{List, [], ◌∷◌, ◌++◌, append_assoc}
 use Prim.Native.Nat.{ℕ, zero, suc, ◌+◌, ◌*◌, ◌-◌, ◌/◌, ◌%◌, ◌^◌, ◌≤◌, ◌<◌}
 use native.Mathlib.Omega.{arith}
 use native.Mathlib.Nat.{le_of_suc-le-suc, lt_of_not-le, pow-le-pow_right}
 use native.Mathlib.Numerals.{add-one}
 use lib.Dec.{ltb}
-use lib.ListN.{length, take, get_or}
+use lib.ListN.{length, take, get_or, set, length-append}
 use borrow.Author.Tests.{ltb-true, ltb-false}
 use Rattle.octets.specs.Stretch.{patch}
 use Rattle.octets.specs.Number.{hex_digit}
 use Rattle.octets.proofs.StretchLaws.{if-cases}
-use Rattle.octets.proofs.PatchLaws.{patch-length, part-patch}
+use Rattle.octets.proofs.PatchLaws.{patch-length, patch-next, set-patch, part-patch}
 use Rattle.io.specs.Digits.{IsDigitCount}
 use Rattle.lines.specs.Line.{width_from, hex_of, shown}
+
+-- ---- texts one behind the other
+
+-- the text so far: ys from the front of xs on, ending at `at`
+pub record Said (xs text : List ℕ) (at : ℕ) (ys : List ℕ) : Type 0 where
+  pub is : text ≡ patch xs 0 ys
+  pub ends : at ≡ length ys
+
+pub said_more : (zs : List ℕ) {xs text next ys : List ℕ} {at end : ℕ}
+    → Said xs text at ys → next ≡ patch text at zs → end ≡ at + length zs → Said xs next end (ys ++ zs)
+said_more zs {xs} {text} {next} {ys} {at} {end} s e f =
+    let p : at ≡ 0 + length ys = omega (arith, s.ends) in
+    record {
+      is = e ∙ rw (s.is, p) (patch-next xs 0 ys zs);
+      ends = rw (length-append ys zs) (omega (arith, f, s.ends));
+    }
 
 -- ---- a text at the front of another
 
@@ -78,6 +94,9 @@ unfolding hex_of
 hex-more [] i h = absurd (omega arith)
 hex-more (x ∷ xs) zero h = refl
 hex-more (x ∷ xs) (suc i) h = ap (λ (l : List ℕ). high x ∷ low x ∷ l) (hex-more xs i (omega arith))
+
+put_one : (xs : List ℕ) (at : ℕ) (ys : List ℕ) (p v : ℕ) → p ≡ at + length ys → set (patch xs at ys) p v ≡ patch xs at (ys ++ (v ∷ []))
+put_one xs at ys p v e = rw (e) (set-patch (patch xs at ys) (at + length ys) v ∙ patch-next xs at ys (v ∷ []))
 
 -- two more digits
 pub hex-turn : (start xs : List ℕ) (i : ℕ) {said : List ℕ} → i < length xs → said ≡ start ++ hex_of (take i xs)

@@ -43,43 +43,49 @@ impl Line {
     }
 
     // What is said stands behind what was.
-    fn text(mut self, said: &[u8]) -> Line
-        requires { length self + length said.now ≤ line_room }
-        ensures { result ≡ self ++ said.now }
+    fn text(&mut self, said: &[u8])
+        requires { length self.old + length said.now ≤ line_room }
+        ensures { self.new ≡ self.old ++ said.now }
     {
         let at = self.length;
         let end = at + said.len();
         self.octets[at..end].copy_from_slice(said);
         self.length = end;
-        self
     }
 
-    fn decimal(self, n: u64) -> Line
-        requires { length self + 20 ≤ line_room }
-        ensures { (result ≡ self ++ decimal n) × (length result ≤ length self + 20) }
+    fn decimal(&mut self, n: u64)
+        requires { length self.old + 20 ≤ line_room }
+        ensures { (self.new ≡ self.old ++ decimal n) × (length self.new ≤ length self.old + 20) }
     {
         let mut digits = [0; 20];
         let k = io::decimal(n, &mut digits);
-        self.text(&digits[..k])
+        self.text(&digits[..k]);
+    }
+
+    // A number, and what is said behind it.
+    fn count(&mut self, n: u64, behind: &[u8])
+        requires { length self.old + (20 + length behind.now) ≤ line_room }
+        ensures { (self.new ≡ (self.old ++ decimal n) ++ behind.now) × (length self.new ≤ length self.old + (20 + length behind.now)) }
+    {
+        self.decimal(n);
+        self.text(behind);
     }
 
     // Two upper-case digits for each octet.
-    fn hex(self, octets: &[u8]) -> Line
-        requires { length self + 2 * length octets.now ≤ line_room }
-        ensures { result ≡ self ++ hex_of octets.now }
+    fn hex(&mut self, octets: &[u8])
+        requires { length self.old + 2 * length octets.now ≤ line_room }
+        ensures { self.new ≡ self.old ++ hex_of octets.now }
     {
-        let mut line = self;
         for x in octets {
             let x = u32::from(*x);
-            line = line.text(&[number::hex_digit(x / 16), number::hex_digit(x % 16)]);
+            self.text(&[number::hex_digit(x / 16), number::hex_digit(x % 16)]);
         }
-        line
     }
 
     // The reply in hex, or "-" where there is none.
-    fn reply(self, reply: &[u8]) -> Line
-        requires { (length reply.now ≤ space_needed) × (length self + 88 ≤ line_room) }
-        ensures { (result ≡ self ++ shown reply.now) × (length result ≤ length self + 88) }
+    fn reply(&mut self, reply: &[u8])
+        requires { (length reply.now ≤ space_needed) × (length self.old + 88 ≤ line_room) }
+        ensures { (self.new ≡ self.old ++ shown reply.now) × (length self.new ≤ length self.old + 88) }
     {
         if reply.is_empty() {
             self.text(b"-")
@@ -94,9 +100,11 @@ pub fn put_line(text: &mut [u8], number: u8, consumed: usize, reply: &[u8]) -> u
     requires { (length reply.now ≤ space_needed) × (length text.old ≡ line_room) }
     ensures { (text.new ≡ patch text.old 0 (line number consumed reply.now)) × (result ≡ length (line number consumed reply.now)) × (result ≤ line_room) }
 {
-    let answer = Line::new().decimal(u64::from(number));
-    let counted = answer.text(b" ").decimal(consumed as u64);
-    let line = counted.text(b" ").reply(reply).text(b"\n");
+    let mut line = Line::new();
+    line.count(u64::from(number), b" ");
+    line.count(consumed as u64, b" ");
+    line.reply(reply);
+    line.text(b"\n");
     let said = line.as_slice();
     octets::stretch::put(text, 0, said);
     said.len()

@@ -1,5 +1,5 @@
 -- What a turn gives can be read off the shape that its contract gathers it in: the line, the state, the table, and whether to go on. Only what
--- lies behind the line in the lent text is state_of open. Assumes nothing.
+-- lies behind the line in the lent text is left open. Assumes nothing.
 use mathlib.Core.Path.{◌≡◌, sym, ap, ◌∙◌}
 use mathlib.Core.Bool.{true≢false, false≢true}
 use mathlib.Core.List.{List}

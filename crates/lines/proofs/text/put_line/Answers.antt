@@ -7,5 +7,5 @@ pub returns : goal.returns
 unfolding line
 returns c =
     let e : c.as_slice-said.result.now ≡ line c.args.number c.args.consumed c.args.reply.now =
-    rw (c.as_slice-said.ensures.0, c.text-line.ensures, c.reply.ensures.0, c.text-2.ensures, c.decimal-counted.ensures.0, c.text.ensures, c.decimal-answer.ensures.0, c.new.ensures, c.from.ensures) refl in
+    rw (c.as_slice-said.ensures.0, c.text.ensures, c.reply.ensures.0, c.count-2.ensures.0, c.count.ensures.0, c.new-line.ensures, c.from.ensures) refl in
     (rw (c.put.ensures, e) refl, rw e refl, rw (c.as_slice-said.ensures.0) c.as_slice-said.ensures.1)

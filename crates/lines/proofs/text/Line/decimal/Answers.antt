@@ -15,5 +15,5 @@ returns c =
     let most = width-most n k c.ranges.n.fits few in
     let w : width_from 19 1 n ≡ k = width_is 19 1 n k few (omega arith) few.0 (omega (arith, most)) in (
       rw (w, ← c.decimal-k.ensures.digits) c.text.ensures,
-      rw (c.text.ensures, length-append c.args.self (take k c.decimal-k.new.out)) (omega (arith, most, c.decimal-k.ensures.in_bounds.1)),
+      rw (c.text.ensures, length-append c.args.self.now (take k c.decimal-k.new.out)) (omega (arith, most, c.decimal-k.ensures.in_bounds.1)),
     )

@@ -6,4 +6,4 @@ use Rattle.lines.specs.Line.{hex_of}
 use Rattle.lines.proofs.text.Line.hex.Given as goal
 
 abbrev pub invariant-loop-x : goal.invariant-loop-x
-invariant-loop-x l = l.line ≡ l.initial.line ++ hex_of (take l.x-index l.octets)
+invariant-loop-x l = l.self ≡ l.initial.self ++ hex_of (take l.x-index l.octets)

@@ -11,4 +11,4 @@ pub returns-else-is_empty : goal.returns-else-is_empty
 returns-else-is_empty c =
     let reply = c.args.reply.now in
     let e = shown-some reply (eqb-false (length reply) 0 (sym c.if-is_empty.ensures)) in
-    (rw (e) c.hex.ensures, rw (c.hex.ensures, length-append c.args.self (hex_of reply), hex-length reply) (omega (arith, c.requires.0)))
+    (rw (e) c.hex.ensures, rw (c.hex.ensures, length-append c.args.self.now (hex_of reply), hex-length reply) (omega (arith, c.requires.0)))
