@@ -115,6 +115,8 @@ fn check_pick(book: usize, table: usize) -> Result<(), Refusal>
 }
 
 // The account's place that is picked. The account is tested here, once, for the number, the part and the octet that callers make of it.
+// Inlined, or each of these callers has the state on its stack twice.
+#[inline(always)]
 pub fn locate(book: &[u8], table: &[u8], state: State, account: usize) -> Result<usize, Refusal>
     ensures { (placed result (part_of account table.now) ≡ (step book.now (world state table.now) (Step.of account Question.pick)).answer) × Inside result account table.now }
 {
