@@ -8,6 +8,7 @@ ghost use Rattle.session.specs.State.{session_count, account_count, fresh, opene
 
 use crate::refusal::Refusal;
 use records::layout;
+use std::array;
 
 // Exactly one of these, each session.
 #[derive(Clone, Copy)]
@@ -144,11 +145,12 @@ impl State {
         self
     }
 
-    // The ids that the account's receivers hold outstanding, session by session; 0 for none.
+    // The ids that the account's receivers hold outstanding, session by session; 0 for none. By the index: a wrong answer that goes by the session's
+    // number can then be written without a closure that counts, which the proof of a `map` allows to none, right or wrong.
     pub fn held(self, account: usize) -> [u32; SESSIONS]
         ensures { result ≡ held_ids self account }
     {
-        self.sessions.map(|x| held_id(receipt_for(account, x)))
+        array::from_fn(|i| held_id(receipt_for(account, self.sessions[i])))
     }
 
     pub fn unbind(self, session: usize) -> State
