@@ -42,6 +42,11 @@ module _ {B : Type 0} (f : B → ℕ → List ℕ → B) (size count : ℕ) (all
   left-none (zero, n, l, e) short = e
   left-none (suc m, n, l, e) short = absurd (omega (arith, mul-suc size m))
 
+-- the end of a fold over records of any size and number
+pub over_last : (size count k : ℕ) (xs : List ℕ) {B : Type 0} (f : B → ℕ → List ℕ → B) (b : B) → count ≤ k → over f b k (rows_from size count k xs) ≡ b
+unfolding over
+over_last size count k xs f b h = rw (rows_end size count k xs h)
+
 module _ (k : ℕ) (xs : List ℕ) (h : k < places) where
   pub every_more : (p : List ℕ → Bool) (so : Bool) → (so && every p (from k xs)) ≡ ((so && p (record_at k xs)) && every p (from (k + 1) xs))
   unfolding every
@@ -76,6 +81,9 @@ over-within : (p : List ℕ → Bool) (rank : List ℕ → ℕ) (n k : ℕ) (b :
 unfolding over
 over-within p rank n k b [] h w = w
 over-within p rank n k b (r ∷ rs) h w = over-within p rank n (k + 1) (keep p rank b k r) rs (omega arith) (keep-within p rank n k b r (omega arith) w)
+
+found_within : (n : ℕ) (b : Option Best) → Within n b → Below n (found_of b)
+found_within n b w = w
 
 pub lowest-below : (size count : ℕ) (p : List ℕ → Bool) (rank : List ℕ → ℕ) (xs : List ℕ) → Below count (lowest p rank (rows size count xs))
 unfolding lowest
