@@ -1,4 +1,5 @@
--- Laws of the line's text: a text at the front of another, how wide a decimal is, and hex octet by octet. Assumes nothing.
+-- Laws of the line's text: texts one behind the other in a lent one (these, and `put_one`, no proof cites now; docs/PORT.md names them), a text at
+-- the front of another, how wide a decimal is, and hex octet by octet. Assumes nothing.
 use mathlib.Core.Path.{◌≡◌, refl, ap, ◌∙◌}
 use mathlib.Core.List.{List, [], ◌∷◌, ◌++◌, append_assoc}
 use Prim.Native.Nat.{ℕ, zero, suc, ◌+◌, ◌*◌, ◌-◌, ◌/◌, ◌%◌, ◌^◌, ◌≤◌, ◌<◌}
